@@ -1,0 +1,4 @@
+pub mod Limited
+pub mod Opening
+pub mod Along
+pub mod Adding

@@ -1,0 +1,6 @@
+pub mod Numbers
+pub mod Plan
+pub mod Rules
+pub mod Limits
+pub mod Held
+pub mod Drafts

@@ -1,0 +1,132 @@
+// What the rules read of a hop, and whether it keeps each of them.
+ghost use mathlib.Core.Path.{_≡_};
+ghost use Prim.Native.Nat.{_≤_, _<_};
+ghost use lib.ListN.{length};
+ghost use Rattle.std.specs.Of.Vec.{vec-len};
+ghost use Rattle.std.specs.Options.{Cases as BySome};
+ghost use Rattle.std.specs.Orderings.{Decides};
+ghost use Rattle.schedule.specs.Numbers.{fault-place};
+ghost use Rattle.schedule.specs.Plan.{Has-hop, Has-reach, flow-at, window-at, wire-of, end-at, crossed-at, late-at, early-at};
+ghost use Rattle.schedule.specs.Rules.{Guarded, Ends-in-cycle, Reached-in-time, Delivered-in-cycle, Meets-deadline, Apart, Stands-apart, Keeps-rules, Broken-there};
+ghost use Rattle.schedule.specs.Drafts.{plan-of};
+use super::Draft;
+use crate::tables::Flow;
+use crate::tables::Window;
+
+/// Preamble, start delimiter and the gap between frames, in octets.
+const FRAME_OVERHEAD: u32 = 20;
+
+impl Draft {
+    pub(crate) fn flow(&self, flow: usize) -> Flow
+        requires { ⌜ flow < vec-len (now self .flows) ⌝ }
+        ensures is { λ r. ⌜ r ≡ flow-at (plan-of (now (self .entry))) flow ⌝ }
+        ensures release { λ r. ⌜ r .release < 1250000 ⌝ }
+        ensures octets { λ r. ⌜ r .octets ≤ 1522 ⌝ }
+        ensures deadline { λ r. ⌜ r .deadline ≤ 1250000 ⌝ }
+    {
+        self.flows[flow]
+    }
+
+    pub(crate) fn window(&self, flow: usize, hop: usize) -> Window
+        requires { ⌜ Has-hop (plan-of (now self)) flow hop ⌝ }
+        ensures is { λ r. ⌜ r ≡ window-at (plan-of (now (self .entry))) flow hop ⌝ }
+        ensures port { λ r. ⌜ r .port < vec-len (now (self .entry) .ports) ⌝ }
+        ensures offset { λ r. ⌜ r .offset < 1250000 ⌝ }
+    {
+        self.windows[self.flows[flow].first + hop]
+    }
+
+    // The wire time of a frame of a flow.
+    pub(crate) fn wire(&self, flow: usize) -> u32
+        requires { ⌜ flow < vec-len (now self .flows) ⌝ }
+        ensures is { λ r. ⌜ r ≡ wire-of (plan-of (now (self .entry))) flow ⌝ }
+        ensures most { λ r. ⌜ r ≤ 1542 ⌝ }
+    {
+        self.flow(flow).octets + FRAME_OVERHEAD
+    }
+
+    // The end of a window.
+    pub(crate) fn end(&self, flow: usize, hop: usize) -> u32
+        requires { ⌜ Has-hop (plan-of (now self)) flow hop ⌝ }
+        ensures is { λ r. ⌜ r ≡ end-at (plan-of (now (self .entry))) flow hop ⌝ }
+        ensures most { λ r. ⌜ r < 1300000 ⌝ }
+    {
+        self.window(flow, hop).offset + self.wire(flow) + 2 * self.error
+    }
+
+    // When a frame that starts at the offset has crossed the link.
+    pub(crate) fn crossed(&self, flow: usize, hop: usize) -> u32
+        requires { ⌜ Has-hop (plan-of (now self)) flow hop ⌝ }
+        ensures is { λ r. ⌜ r ≡ crossed-at (plan-of (now (self .entry))) flow hop ⌝ }
+        ensures most { λ r. ⌜ r < 1300000 ⌝ }
+    {
+        let window = self.window(flow, hop);
+        window.offset + self.wire(flow) + self.ports[window.port].delay
+    }
+
+    // The latest tick at which the frame can join the line of a hop; after the last hop, be delivered.
+    pub(crate) fn late(&self, flow: usize, hop: usize) -> u32
+        requires { ⌜ Has-reach (plan-of (now self)) flow hop ⌝ }
+        ensures is { λ r. ⌜ r ≡ late-at (plan-of (now (self .entry))) flow hop ⌝ }
+        ensures most { λ r. ⌜ r < 1400000 ⌝ }
+    {
+        if hop == 0 {
+            return self.flow(flow).release;
+        }
+        self.crossed(flow, hop - 1) + self.error
+    }
+
+    // The earliest such tick, and the clock error more.
+    pub(crate) fn early(&self, flow: usize, hop: usize) -> u32
+        requires { ⌜ Has-reach (plan-of (now self)) flow hop ⌝ }
+        ensures is { λ r. ⌜ r ≡ early-at (plan-of (now (self .entry))) flow hop ⌝ }
+        ensures most { λ r. ⌜ r < 1400000 ⌝ }
+    {
+        if hop == 0 {
+            return self.flow(flow).release + self.error;
+        }
+        self.crossed(flow, hop - 1)
+    }
+
+    fn is_guarded(&self, flow: usize, hop: usize) -> bool
+        requires { ⌜ Has-hop (plan-of (now self)) flow hop ⌝ }
+        ensures { λ r. ⌜ Decides r (Guarded (plan-of (now (self .entry))) flow hop) ⌝ }
+    {
+        2 * self.error <= self.window(flow, hop).offset
+    }
+
+    fn ends_in_cycle(&self, flow: usize, hop: usize) -> bool
+        requires { ⌜ Has-hop (plan-of (now self)) flow hop ⌝ }
+        ensures { λ r. ⌜ Decides r (Ends-in-cycle (plan-of (now (self .entry))) flow hop) ⌝ }
+    {
+        self.end(flow, hop) + 2 * self.error <= self.cycle
+    }
+
+    fn is_reached_in_time(&self, flow: usize, hop: usize) -> bool
+        requires { ⌜ Has-hop (plan-of (now self)) flow hop ⌝ }
+        ensures { λ r. ⌜ Decides r (Reached-in-time (plan-of (now (self .entry))) flow hop) ⌝ }
+    {
+        self.late(flow, hop) + self.error <= self.window(flow, hop).offset
+    }
+
+    fn is_delivered_in_cycle(&self, flow: usize, hop: usize) -> bool
+        requires { ⌜ Has-hop (plan-of (now self)) flow hop ⌝ }
+        ensures { λ r. ⌜ Decides r (Delivered-in-cycle (plan-of (now (self .entry))) flow hop) ⌝ }
+    {
+        if hop + 1 < self.flow(flow).hops {
+            return true;
+        }
+        self.late(flow, hop + 1) < self.cycle
+    }
+
+    fn meets_deadline(&self, flow: usize, hop: usize) -> bool
+        requires { ⌜ Has-hop (plan-of (now self)) flow hop ⌝ }
+        ensures { λ r. ⌜ Decides r (Meets-deadline (plan-of (now (self .entry))) flow hop) ⌝ }
+    {
+        let Flow { release, deadline, hops, .. } = self.flow(flow);
+        if hop + 1 < hops {
+            return true;
+        }
+        self.late(flow, hop + 1) <= deadline + release
+    }
+}
