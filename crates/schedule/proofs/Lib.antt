@@ -2,3 +2,4 @@ pub mod Limited
 pub mod Opening
 pub mod Along
 pub mod Adding
+pub mod Props

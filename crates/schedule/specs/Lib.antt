@@ -4,3 +4,4 @@ pub mod Rules
 pub mod Limits
 pub mod Held
 pub mod Drafts
+pub mod Checks

@@ -36,9 +36,13 @@ pub record Apart (P : Plan) (f h g k : ℕ) : Type 0 where
   pub above : offset-at P g k < offset-at P f h → After P f h g k
   pub below : offset-at P f h < offset-at P g k → After P g k f h
 
--- 6: the window stands apart from those of lower flows at its port
+-- the window of hop h of flow f stands apart from those of flow g at its port
+abbrev pub Apart-from : Plan → ℕ → ℕ → ℕ → Type 0
+Apart-from P f h g = (k : ℕ) → k < hop-count P g → port-at P g k ≡ port-at P f h → Apart P f h g k
+
+-- 6: it stands apart from those of all lower flows
 abbrev pub Stands-apart : Plan → ℕ → ℕ → Type 0
-Stands-apart P f h = (g k : ℕ) → g < f → k < hop-count P g → port-at P g k ≡ port-at P f h → Apart P f h g k
+Stands-apart P f h = (g : ℕ) → g < f → Apart-from P f h g
 
 -- hop h of flow f keeps the six rules
 pub record Keeps-rules (P : Plan) (f h : ℕ) : Type 0 where
@@ -49,9 +53,13 @@ pub record Keeps-rules (P : Plan) (f h : ℕ) : Type 0 where
   pub meets : Meets-deadline P f h
   pub apart : Stands-apart P f h
 
--- a good plan: every hop of every flow keeps them
+-- every hop of flow f keeps them
+abbrev pub Flow-keeps : Plan → ℕ → Type 0
+Flow-keeps P f = (h : ℕ) → h < hop-count P f → Keeps-rules P f h
+
+-- a good plan: every flow keeps them
 abbrev pub Good : Plan → Type 0
-Good P = (f h : ℕ) → f < flow-count P → h < hop-count P f → Keeps-rules P f h
+Good P = (f : ℕ) → f < flow-count P → Flow-keeps P f
 
 -- the rule of the fault is broken at its hop, and the rules before it are kept there
 abbrev pub Broken-there : Plan → Fault → Type 0
@@ -62,14 +70,15 @@ Broken-there P (DeliveryPastCycle f h) = Guarded P f h × Ends-in-cycle P f h ×
 Broken-there P (DeadlineMissed f h) = Guarded P f h × Ends-in-cycle P f h × Reached-in-time P f h × Delivered-in-cycle P f h × (Meets-deadline P f h → ⊥)
 Broken-there P (WindowsTooClose f h) = Guarded P f h × Ends-in-cycle P f h × Reached-in-time P f h × Delivered-in-cycle P f h × Meets-deadline P f h × (Stands-apart P f h → ⊥)
 
--- every hop before hop h of flow f, by flow and then by hop, keeps the rules
-pub record Good-before (P : Plan) (f h : ℕ) : Type 0 where
-  pub flows-before : (g k : ℕ) → g < f → k < hop-count P g → Keeps-rules P g k
-  pub hops-before : (k : ℕ) → k < h → Keeps-rules P f k
+-- the first fault of flow f: hops by number, at a hop the rules in order
+pub record First-in-flow (P : Plan) (f : ℕ) (x : Fault) : Type 0 where
+  pub flow-is : fault-place x .0 ≡ f
+  pub hop-in : fault-place x .1 < hop-count P f
+  pub broken : Broken-there P x
+  pub before : (h : ℕ) → h < fault-place x .1 → Keeps-rules P f h
 
--- the first fault: flows and hops by number, at a hop the rules in order
+-- the first fault of a plan: the first of its flow, and every lower flow keeps the rules
 pub record First-fault (P : Plan) (x : Fault) : Type 0 where
   pub flow-in : fault-place x .0 < flow-count P
-  pub hop-in : fault-place x .1 < hop-count P (fault-place x .0)
-  pub broken : Broken-there P x
-  pub before : Good-before P (fault-place x .0) (fault-place x .1)
+  pub first : First-in-flow P (fault-place x .0) x
+  pub before : (f : ℕ) → f < fault-place x .0 → Flow-keeps P f

@@ -6,10 +6,11 @@ ghost use Rattle.std.specs.Of.Vec.{vec-len};
 ghost use Rattle.std.specs.Options.{Cases as BySome};
 ghost use Rattle.std.specs.Orderings.{Decides};
 ghost use Rattle.schedule.specs.Numbers.{fault-place};
-ghost use Rattle.schedule.specs.Plan.{Has-hop, Has-reach, flow-at, window-at, wire-of, end-at, crossed-at, late-at, early-at};
-ghost use Rattle.schedule.specs.Rules.{Guarded, Ends-in-cycle, Reached-in-time, Delivered-in-cycle, Meets-deadline, Apart, Stands-apart, Keeps-rules, Broken-there};
+ghost use Rattle.schedule.specs.Plan.{Has-hop, Has-reach, flow-count, flow-at, window-at, wire-of, end-at, crossed-at, late-at, early-at};
+ghost use Rattle.schedule.specs.Rules.{Guarded, Ends-in-cycle, Reached-in-time, Delivered-in-cycle, Meets-deadline, Apart, Apart-from, Stands-apart, Keeps-rules, Broken-there};
 ghost use Rattle.schedule.specs.Drafts.{plan-of};
 use super::Draft;
+use crate::refusal::Fault;
 use crate::tables::Flow;
 use crate::tables::Window;
 
@@ -17,6 +18,12 @@ use crate::tables::Window;
 const FRAME_OVERHEAD: u32 = 20;
 
 impl Draft {
+    pub(crate) fn flow_count(&self) -> usize
+        ensures { λ r. ⌜ r ≡ flow-count (plan-of (now (self .entry))) ⌝ }
+    {
+        self.flows.len()
+    }
+
     pub(crate) fn flow(&self, flow: usize) -> Flow
         requires { ⌜ flow < vec-len (now self .flows) ⌝ }
         ensures is { λ r. ⌜ r ≡ flow-at (plan-of (now (self .entry))) flow ⌝ }
@@ -128,5 +135,77 @@ impl Draft {
             return true;
         }
         self.late(flow, hop + 1) <= deadline + release
+    }
+
+    // Whether two windows of one port stand apart.
+    fn is_apart(&self, flow: usize, hop: usize, other: usize, place: usize) -> bool
+        requires { ⌜ Has-hop (plan-of (now self)) flow hop ⌝ }
+        requires { ⌜ Has-hop (plan-of (now self)) other place ⌝ }
+        ensures { λ r. ⌜ Decides r (Apart (plan-of (now (self .entry))) flow hop other place) ⌝ }
+    {
+        let offset = self.window(flow, hop).offset;
+        let other_offset = self.window(other, place).offset;
+        if other_offset < offset {
+            return self.end(other, place) + 2 * self.error <= self.early(flow, hop);
+        }
+        if offset < other_offset {
+            return self.end(flow, hop) + 2 * self.error <= self.early(other, place);
+        }
+        false
+    }
+
+    // Whether a window stands apart from those of another flow at its port.
+    fn is_apart_from_flow(&self, flow: usize, hop: usize, other: usize) -> bool
+        requires { ⌜ Has-hop (plan-of (now self)) flow hop ⌝ }
+        requires { ⌜ other < vec-len (now self .flows) ⌝ }
+        ensures { λ r. ⌜ Decides r (Apart-from (plan-of (now (self .entry))) flow hop other) ⌝ }
+    {
+        let port = self.window(flow, hop).port;
+        for place in 0..self.flow(other).hops {
+            if self.window(other, place).port == port {
+                if !self.is_apart(flow, hop, other, place) {
+                    return false;
+                }
+            }
+        }
+        true
+    }
+
+    fn stands_apart(&self, flow: usize, hop: usize) -> bool
+        requires { ⌜ Has-hop (plan-of (now self)) flow hop ⌝ }
+        ensures { λ r. ⌜ Decides r (Stands-apart (plan-of (now (self .entry))) flow hop) ⌝ }
+    {
+        for other in 0..flow {
+            if !self.is_apart_from_flow(flow, hop, other) {
+                return false;
+            }
+        }
+        true
+    }
+
+    // The first rule that a hop breaks.
+    pub(crate) fn fault_at(&self, flow: usize, hop: usize) -> Option<Fault>
+        requires { ⌜ Has-hop (plan-of (now self)) flow hop ⌝ }
+        ensures { λ r. ⌜ BySome r (Keeps-rules (plan-of (now (self .entry))) flow hop) (λ x. (fault-place x ≡ (flow, hop)) × Broken-there (plan-of (now (self .entry))) x) ⌝ }
+    {
+        if !self.is_guarded(flow, hop) {
+            return Some(Fault::OffsetTooEarly { flow, hop });
+        }
+        if !self.ends_in_cycle(flow, hop) {
+            return Some(Fault::EndTooLate { flow, hop });
+        }
+        if !self.is_reached_in_time(flow, hop) {
+            return Some(Fault::ReachTooLate { flow, hop });
+        }
+        if !self.is_delivered_in_cycle(flow, hop) {
+            return Some(Fault::DeliveryPastCycle { flow, hop });
+        }
+        if !self.meets_deadline(flow, hop) {
+            return Some(Fault::DeadlineMissed { flow, hop });
+        }
+        if !self.stands_apart(flow, hop) {
+            return Some(Fault::WindowsTooClose { flow, hop });
+        }
+        None
     }
 }
