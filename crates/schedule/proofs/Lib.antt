@@ -3,3 +3,4 @@ pub mod Opening
 pub mod Along
 pub mod Adding
 pub mod Props
+pub mod Chains

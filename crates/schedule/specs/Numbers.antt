@@ -6,6 +6,8 @@ use Rattle.schedule.specs.declared.refusal.OpenRefusal.{OpenRefusal}
 use Rattle.schedule.specs.declared.refusal.OpenRefusal.the-variants.{TimingBeyondLimits, PortsBeyondLimits, OutOfMemory}
 use Rattle.schedule.specs.declared.refusal.FlowRefusal.{FlowRefusal}
 use Rattle.schedule.specs.declared.refusal.FlowRefusal.the-variants.{DraftFull, FlowBeyondLimits, BadRoute, BadOffsets}
+use Rattle.schedule.specs.declared.refusal.CertificateRefusal.{CertificateRefusal}
+use Rattle.schedule.specs.declared.refusal.CertificateRefusal.the-variants.{AbsentFlow}
 use Rattle.schedule.specs.declared.refusal.Fault.{Fault}
 use Rattle.schedule.specs.declared.refusal.Fault.the-variants.{OffsetTooEarly, EndTooLate, ReachTooLate, DeliveryPastCycle, DeadlineMissed, WindowsTooClose}
 
@@ -21,6 +23,10 @@ flow-number DraftFull = 1
 flow-number FlowBeyondLimits = 2
 flow-number BadRoute = 3
 flow-number BadOffsets = 5
+
+-- the number with which a certificate is refused
+abbrev pub certificate-number : CertificateRefusal → ℕ
+certificate-number AbsentFlow = 22
 
 -- the number of the rule that is broken
 abbrev pub fault-number : Fault → ℕ

@@ -1,6 +1,6 @@
 -- What a plan holds, and how its parts are read. Numbers of ports, flows and hops count from 0.
 use mathlib.Core.List.{List}
-use Prim.Native.Nat.{ℕ, suc, zero, _+_, _*_, _≤_, _<_}
+use Prim.Native.Nat.{ℕ, suc, zero, _+_, _-_, _*_, _≤_, _<_}
 use lib.ListN.{length, getD}
 use Rattle.schedule.specs.declared.tables.Port.{Port}
 use Rattle.schedule.specs.declared.tables.Flow.{Flow}
@@ -92,3 +92,11 @@ late-at P f (suc h) = crossed-at P f h + P .error
 abbrev pub early-at : Plan → ℕ → ℕ → ℕ
 early-at P f zero = release-of P f + P .error
 early-at P f (suc h) = crossed-at P f h
+
+-- the reach of hop h: the earliest and the latest tick at which the frame can join the line there
+abbrev pub reach-of : Plan → ℕ → ℕ → ℕ × ℕ
+reach-of P f h = (early-at P f h - P .error, late-at P f h)
+
+-- the certificate of a flow: its least and its greatest transit, from release to delivery after the last hop
+abbrev pub certificate-of : Plan → ℕ → ℕ × ℕ
+certificate-of P f = (reach-of P f (hop-count P f) .0 - release-of P f, reach-of P f (hop-count P f) .1 - release-of P f)

@@ -1,6 +1,6 @@
 // Why a call is refused, and why a draft fails the check.
 ghost use mathlib.Core.Path.{_≡_};
-ghost use Rattle.schedule.specs.Numbers.{open-number, flow-number, fault-number, fault-place};
+ghost use Rattle.schedule.specs.Numbers.{open-number, flow-number, certificate-number, fault-number, fault-place};
 ghost use Rattle.schedule.specs.declared.refusal.OpenRefusal.the-variants.{OutOfMemory};
 use std::alloc::AllocError;
 
@@ -21,7 +21,7 @@ pub enum FlowRefusal {
     BadOffsets,
 }
 
-/// The flow asked for is not in the plan.
+/// Why a plan has no such certificate.
 #[derive(Clone, Copy, PartialEq, Debug)]
 pub enum CertificateRefusal {
     AbsentFlow,
@@ -68,6 +68,16 @@ impl FlowRefusal {
             FlowRefusal::FlowBeyondLimits => 2,
             FlowRefusal::BadRoute => 3,
             FlowRefusal::BadOffsets => 5,
+        }
+    }
+}
+
+impl CertificateRefusal {
+    pub fn number(self) -> u8
+        ensures { λ r. ⌜ r ≡ certificate-number self ⌝ }
+    {
+        match self {
+            CertificateRefusal::AbsentFlow => 22,
         }
     }
 }

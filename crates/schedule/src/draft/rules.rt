@@ -2,7 +2,7 @@
 ghost use mathlib.Core.Path.{_≡_};
 ghost use Prim.Native.Nat.{_≤_, _<_};
 ghost use lib.ListN.{length};
-ghost use Rattle.std.specs.Of.Vec.{vec-len};
+ghost use Rattle.std.specs.Of.Vec.{vec-items, vec-len};
 ghost use Rattle.std.specs.Options.{Cases as BySome};
 ghost use Rattle.std.specs.Orderings.{Decides};
 ghost use Rattle.schedule.specs.Numbers.{fault-place};
@@ -12,6 +12,7 @@ ghost use Rattle.schedule.specs.Drafts.{plan-of};
 use super::Draft;
 use crate::refusal::Fault;
 use crate::tables::Flow;
+use crate::tables::Port;
 use crate::tables::Window;
 
 /// Preamble, start delimiter and the gap between frames, in octets.
@@ -22,6 +23,42 @@ impl Draft {
         ensures { λ r. ⌜ r ≡ flow-count (plan-of (now (self .entry))) ⌝ }
     {
         self.flows.len()
+    }
+
+    pub(crate) fn cycle(&self) -> u32
+        ensures { λ r. ⌜ r ≡ now (self .entry) .cycle ⌝ }
+    {
+        self.cycle
+    }
+
+    pub(crate) fn error(&self) -> u32
+        ensures { λ r. ⌜ r ≡ now (self .entry) .error ⌝ }
+    {
+        self.error
+    }
+
+    pub(crate) fn extension(&self) -> u32
+        ensures { λ r. ⌜ r ≡ now (self .entry) .extension ⌝ }
+    {
+        self.extension
+    }
+
+    pub(crate) fn ports(&self) -> &[Port]
+        ensures { λ r. ⌜ now r ≡ vec-items (now (self .entry) .ports) ⌝ }
+    {
+        self.ports.as_slice()
+    }
+
+    pub(crate) fn flows(&self) -> &[Flow]
+        ensures { λ r. ⌜ now r ≡ vec-items (now (self .entry) .flows) ⌝ }
+    {
+        self.flows.as_slice()
+    }
+
+    pub(crate) fn windows(&self) -> &[Window]
+        ensures { λ r. ⌜ now r ≡ vec-items (now (self .entry) .windows) ⌝ }
+    {
+        self.windows.as_slice()
     }
 
     pub(crate) fn flow(&self, flow: usize) -> Flow
