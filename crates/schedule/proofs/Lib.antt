@@ -4,3 +4,4 @@ pub mod Along
 pub mod Adding
 pub mod Props
 pub mod Chains
+pub mod Routes

@@ -21,6 +21,8 @@ pub const MAX_ERROR: u64 = 125;
 /// The fewest and the most octets of a frame.
 pub const MIN_OCTETS: u64 = 64;
 pub const MAX_OCTETS: u64 = 1_522;
+/// What the wire time of a frame adds to its octets: preamble, start delimiter and the gap between frames.
+pub const FRAME_OVERHEAD: u64 = 20;
 
 pub(crate) fn is_timing_allowed(cycle: u64, error: u64, extension: u64) -> bool
     ensures { λ r. ⌜ r ≡ timing-allowed cycle error extension ⌝ }

@@ -10,13 +10,11 @@ ghost use Rattle.schedule.specs.Plan.{Has-hop, Has-reach, flow-count, flow-at,
 ghost use Rattle.schedule.specs.Rules.{Guarded, Ends-in-cycle, Reached-in-time, Delivered-in-cycle, Meets-deadline, Apart, Apart-from, Stands-apart, Keeps-rules, Broken-there};
 ghost use Rattle.schedule.specs.Drafts.{plan-of};
 use super::Draft;
+use crate::limits::FRAME_OVERHEAD;
 use crate::refusal::Fault;
 use crate::tables::Flow;
 use crate::tables::Port;
 use crate::tables::Window;
-
-/// Preamble, start delimiter and the gap between frames, in octets.
-const FRAME_OVERHEAD: u32 = 20;
 
 impl Draft {
     pub(crate) fn flow_count(&self) -> usize
@@ -86,7 +84,7 @@ impl Draft {
         ensures is { λ r. ⌜ r ≡ wire-of (plan-of (now (self .entry))) flow ⌝ }
         ensures most { λ r. ⌜ r ≤ 1542 ⌝ }
     {
-        self.flow(flow).octets + FRAME_OVERHEAD
+        self.flow(flow).octets + FRAME_OVERHEAD as u32
     }
 
     // The end of a window.

@@ -1,0 +1,5 @@
+pub mod Meets
+pub mod Edges
+pub mod Counts
+pub mod Entries
+pub mod Running

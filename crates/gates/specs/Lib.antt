@@ -1,0 +1,5 @@
+pub mod Numbers
+pub mod Octets
+pub mod Lists
+pub mod Scan
+pub mod Makes

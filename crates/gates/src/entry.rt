@@ -1,0 +1,19 @@
+// One entry of a gate control list.
+ghost use mathlib.Core.Path.{_≡_};
+ghost use Rattle.gates.specs.Octets.{opens};
+
+/// A gate octet and the ticks for which it lasts. Bit c is 1 where the gate of class c is open.
+#[derive(Clone, Copy, PartialEq, Debug)]
+pub struct GateEntry {
+    pub octet: u8,
+    pub ticks: u32,
+}
+
+impl GateEntry {
+    /// Whether the gate of a class is open; there is none above 7.
+    pub fn is_open(&self, class: u8) -> bool
+        ensures { λ r. ⌜ r ≡ opens (now (self .entry) .octet) class ⌝ }
+    {
+        class < 8 && (self.octet >> class) & 1 == 1
+    }
+}

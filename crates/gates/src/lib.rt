@@ -1,0 +1,4 @@
+// Gate control lists of a checked plan.
+pub mod entry;
+pub mod list;
+pub mod refusal;
