@@ -16,6 +16,12 @@ pub total-push : (es : List GateEntry) (e : GateEntry) → total (es ++ e ∷ []
 total-push [] e = omega arith
 total-push (d ∷ es) e = let a = total-push es e in omega arith
 
+pub yields-head : (e : GateEntry) (es : List GateEntry) (x : ℕ) → x < e .ticks → yields (e ∷ es) x ≡ e .octet
+yields-head e es x lt = ap (λ b. cond b (e .octet) (yields es (x - e .ticks))) (lt-ltb x (e .ticks) lt)
+
+pub yields-tail : (e : GateEntry) (es : List GateEntry) (x : ℕ) → e .ticks ≤ x → yields (e ∷ es) x ≡ yields es (x - e .ticks)
+yields-tail e es x le = ap (λ b. cond b (e .octet) (yields es (x - e .ticks))) (le-ltb x (e .ticks) le)
+
 -- within the entries before, what they yield
 pub yields-before : (es : List GateEntry) (e : GateEntry) (x : ℕ) → x < total es → yields (es ++ e ∷ []) x ≡ yields es x
 yields-before [] e x lt = absurd (omega arith)

@@ -3,3 +3,4 @@ pub mod Edges
 pub mod Counts
 pub mod Entries
 pub mod Running
+pub mod Example

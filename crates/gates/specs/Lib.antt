@@ -3,3 +3,4 @@ pub mod Octets
 pub mod Lists
 pub mod Scan
 pub mod Makes
+pub mod Figures
