@@ -26,8 +26,9 @@ yields-tail e es x le = ap (λ b. cond b (e .octet) (yields es (x - e .ticks))) 
 pub yields-before : (es : List GateEntry) (e : GateEntry) (x : ℕ) → x < total es → yields (es ++ e ∷ []) x ≡ yields es x
 yields-before [] e x lt = absurd (omega arith)
 yields-before (d ∷ es) e x lt = elim (cases-lt x (d .ticks)) [
-      inl h ↦ (λ i. cond (lt-ltb x (d .ticks) h i) (d .octet) (yields (es ++ e ∷ []) (x - d .ticks))) ∙ sym (λ i. cond (lt-ltb x (d .ticks) h i) (d .octet) (yields es (x - d .ticks)))
-    | inr h ↦ ap (λ n. cond (ltb x (d .ticks)) (d .octet) n) (yields-before es e (x - d .ticks) (omega arith)) ]
+  | inl h ↦ (λ i. cond (lt-ltb x (d .ticks) h i) (d .octet) (yields (es ++ e ∷ []) (x - d .ticks))) ∙ sym (λ i. cond (lt-ltb x (d .ticks) h i) (d .octet) (yields es (x - d .ticks)))
+  | inr h ↦ ap (λ n. cond (ltb x (d .ticks)) (d .octet) n) (yields-before es e (x - d .ticks) (omega arith))
+]
 
 -- after them, the octet of the last
 pub yields-last : (es : List GateEntry) (e : GateEntry) (x : ℕ) → total es ≤ x → x < total es + e .ticks → yields (es ++ e ∷ []) x ≡ e .octet
@@ -37,8 +38,9 @@ yields-last (d ∷ es) e x le lt =
 
 pub lasting-push : (es : List GateEntry) (e : GateEntry) → Lasting es → 0 < e .ticks → Lasting (es ++ e ∷ [])
 lasting-push es e held h i lt = elim (cases-lt i (length es)) [
-      inl k ↦ subst (λ (x : GateEntry). 0 < x .ticks) (sym (getD-append-left es (e ∷ []) no-entry i k)) (held i k)
-    | inr k ↦ subst (λ (x : GateEntry). 0 < x .ticks) (sym (getD-push es e no-entry i (omega (arith, length-push es e)))) h ]
+  | inl k ↦ subst (λ (x : GateEntry). 0 < x .ticks) (sym (getD-append-left es (e ∷ []) no-entry i k)) (held i k)
+  | inr k ↦ subst (λ (x : GateEntry). 0 < x .ticks) (sym (getD-push es e no-entry i (omega (arith, length-push es e)))) h
+]
 
 -- the last of the entries has another octet
 abbrev pub Ends-other : List GateEntry → ℕ → Type 0
@@ -46,9 +48,10 @@ Ends-other es o = (i : ℕ) → i + 1 ≡ length es → getD es i no-entry .octe
 
 pub changing-push : (es : List GateEntry) (e : GateEntry) → Changing es → Ends-other es (e .octet) → Changing (es ++ e ∷ [])
 changing-push es e held other i lt same = elim (cases-lt (i + 1) (length es)) [
-      inl k ↦ held i k (sym (ap (λ (x : GateEntry). x .octet) (getD-append-left es (e ∷ []) no-entry i (omega arith))) ∙ same ∙ ap (λ (x : GateEntry). x .octet) (getD-append-left es (e ∷ []) no-entry (i + 1) k))
-    | inr k ↦ (let n : i + 1 ≡ length es = omega (arith, length-push es e) in
-               other i n (sym (ap (λ (x : GateEntry). x .octet) (getD-append-left es (e ∷ []) no-entry i (omega arith))) ∙ same ∙ ap (λ (x : GateEntry). x .octet) (getD-push es e no-entry (i + 1) (sym n)))) ]
+  | inl k ↦ held i k (sym (ap (λ (x : GateEntry). x .octet) (getD-append-left es (e ∷ []) no-entry i (omega arith))) ∙ same ∙ ap (λ (x : GateEntry). x .octet) (getD-append-left es (e ∷ []) no-entry (i + 1) k))
+  | inr k ↦ (let n : i + 1 ≡ length es = omega (arith, length-push es e) in
+      other i n (sym (ap (λ (x : GateEntry). x .octet) (getD-append-left es (e ∷ []) no-entry i (omega arith))) ∙ same ∙ ap (λ (x : GateEntry). x .octet) (getD-push es e no-entry (i + 1) (sym n))))
+]
 
 pub ends-push : (es : List GateEntry) (e : GateEntry) (o : ℕ) → (e .octet ≡ o → ⊥) → Ends-other (es ++ e ∷ []) o
 ends-push es e o other i n same = other (sym (ap (λ (x : GateEntry). x .octet) (getD-push es e no-entry i (omega (arith, length-push es e)))) ∙ same)

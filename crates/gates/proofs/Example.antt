@@ -73,12 +73,15 @@ entry i = getD list-of-one i no-entry
 yields-right : (x : ℕ) → x < 10000 → yields list-of-one x ≡ octet-at one-flow 1 x
 unfolding stretch-from
 yields-right x lt = elim (cases-lt x 190) [
-      inl a ↦ yields-head (entry 0) (drop 1 list-of-one) x a ∙ sym (steady 0 x (omega arith) a)
-    | inr a ↦ yields-tail (entry 0) (drop 1 list-of-one) x a ∙ elim (cases-lt x 210) [
-        inl b ↦ yields-head (entry 1) (drop 2 list-of-one) (x - 190) (omega arith) ∙ sym (steady 190 x a b)
-      | inr b ↦ yields-tail (entry 1) (drop 2 list-of-one) (x - 190) (omega arith) ∙ elim (cases-lt x 350) [
-          inl c ↦ yields-head (entry 2) (drop 3 list-of-one) (x - 190 - 20) (omega arith) ∙ sym (steady 210 x b c)
-        | inr c ↦ yields-tail (entry 2) (drop 3 list-of-one) (x - 190 - 20) (omega arith) ∙ yields-head (entry 3) [] (x - 190 - 20 - 140) (omega arith) ∙ sym (steady 350 x c lt) ] ] ]
+  | inl a ↦ yields-head (entry 0) (drop 1 list-of-one) x a ∙ sym (steady 0 x (omega arith) a)
+  | inr a ↦ yields-tail (entry 0) (drop 1 list-of-one) x a ∙ elim (cases-lt x 210) [
+    | inl b ↦ yields-head (entry 1) (drop 2 list-of-one) (x - 190) (omega arith) ∙ sym (steady 190 x a b)
+    | inr b ↦ yields-tail (entry 1) (drop 2 list-of-one) (x - 190) (omega arith) ∙ elim (cases-lt x 350) [
+      | inl c ↦ yields-head (entry 2) (drop 3 list-of-one) (x - 190 - 20) (omega arith) ∙ sym (steady 210 x b c)
+      | inr c ↦ yields-tail (entry 2) (drop 3 list-of-one) (x - 190 - 20) (omega arith) ∙ yields-head (entry 3) [] (x - 190 - 20 - 140) (omega arith) ∙ sym (steady 350 x c lt)
+    ]
+  ]
+]
 
 lasting-right : Lasting list-of-one
 lasting-right zero lt = lit< tt
@@ -95,8 +98,9 @@ changing-right (suc (suc (suc i))) lt e = absurd (omega arith)
 
 pub figures : Figures
 figures = record {
-    first-good = one-good;
-    first-certificate = refl;
-    first-list = record { yielding = yields-right; lasting = lasting-right; changing = changing-right; whole = refl; few = lit≤ tt };
-    second-good = two-good;
-    second-certificate = refl }
+  first-good = one-good;
+  first-certificate = refl;
+  first-list = record { yielding = yields-right; lasting = lasting-right; changing = changing-right; whole = refl; few = lit≤ tt };
+  second-good = two-good;
+  second-certificate = refl;
+}

@@ -32,29 +32,32 @@ in-window-step false false near = refl
 
 octet-step : (t d o e : ℕ) (w g : Bool) → o ≤ e → octet-with t (o - d) o e (octet-by w g) ≡ octet-by ((leb o t && ltb t e) || w) ((ltb t o && leb o (t + d)) || g)
 octet-step t d o e w g oe = elim (cases-lt t (o - d)) [
-      inl h ↦ (let from = lt-leb (o - d) t h in
-               let begun = lt-leb o t (omega arith) in
-               let near = lt-leb o (t + d) (omega arith) in
-               let ahead = lt-ltb t o (omega arith) in
-               (λ i. seen (from i) (ltb t e) (leb o t) w g) ∙ sym (λ i. given (begun i) (ltb t e) (ahead i) (near i) w g))
-    | inr h ↦ elim (cases-lt t e) [
-        inr k ↦ (let from = le-leb (o - d) t h in
-                 let before = le-ltb t e k in
-                 let begun = le-leb o t (omega arith) in
-                 let ahead = le-ltb t o (omega arith) in
-                 (λ i. seen (from i) (before i) (leb o t) w g) ∙ sym (λ i. given (begun i) (before i) (ahead i) (leb o (t + d)) w g))
-      | inl k ↦ elim (cases-lt t o) [
-          inl l ↦ (let from = le-leb (o - d) t h in
-                   let before = lt-ltb t e k in
-                   let begun = lt-leb o t l in
-                   let ahead = lt-ltb t o l in
-                   let near = le-leb o (t + d) (omega arith) in
-                   (λ i. seen (from i) (before i) (begun i) w g) ∙ in-guard-step w g ∙ sym (λ i. given (begun i) (before i) (ahead i) (near i) w g))
-        | inr l ↦ (let from = le-leb (o - d) t h in
-                   let before = lt-ltb t e k in
-                   let begun = le-leb o t l in
-                   let ahead = le-ltb t o l in
-                   (λ i. seen (from i) (before i) (begun i) w g) ∙ in-window-step w g (leb o (t + d)) ∙ sym (λ i. given (begun i) (before i) (ahead i) (leb o (t + d)) w g)) ] ] ]
+  | inl h ↦ (let from = lt-leb (o - d) t h in
+      let begun = lt-leb o t (omega arith) in
+      let near = lt-leb o (t + d) (omega arith) in
+      let ahead = lt-ltb t o (omega arith) in
+      (λ i. seen (from i) (ltb t e) (leb o t) w g) ∙ sym (λ i. given (begun i) (ltb t e) (ahead i) (near i) w g))
+  | inr h ↦ elim (cases-lt t e) [
+    | inr k ↦ (let from = le-leb (o - d) t h in
+        let before = le-ltb t e k in
+        let begun = le-leb o t (omega arith) in
+        let ahead = le-ltb t o (omega arith) in
+        (λ i. seen (from i) (before i) (leb o t) w g) ∙ sym (λ i. given (begun i) (before i) (ahead i) (leb o (t + d)) w g))
+    | inl k ↦ elim (cases-lt t o) [
+      | inl l ↦ (let from = le-leb (o - d) t h in
+          let before = lt-ltb t e k in
+          let begun = lt-leb o t l in
+          let ahead = lt-ltb t o l in
+          let near = le-leb o (t + d) (omega arith) in
+          (λ i. seen (from i) (before i) (begun i) w g) ∙ in-guard-step w g ∙ sym (λ i. given (begun i) (before i) (ahead i) (near i) w g))
+      | inr l ↦ (let from = le-leb (o - d) t h in
+          let before = lt-ltb t e k in
+          let begun = le-leb o t l in
+          let ahead = le-ltb t o l in
+          (λ i. seen (from i) (before i) (begun i) w g) ∙ in-window-step w g (leb o (t + d)) ∙ sym (λ i. given (begun i) (before i) (ahead i) (leb o (t + d)) w g))
+    ]
+  ]
+]
 
 or-assoc : (a b c : Bool) → (a || (b || c)) ≡ ((a || b) || c)
 or-assoc true b c = refl
@@ -63,23 +66,24 @@ or-assoc false b c = refl
 module _ (P : Plan) (p t : ℕ) where
   hop-octet : (f h : ℕ) (s : Stretch) (w g : Bool) → s .octet ≡ octet-by w g → stretch-at P p t f h s .octet ≡ octet-by (inside P p t f h || w) (ahead P p t f h || g)
   hop-octet f h s w g e = elim (cases-bool (eqb (port-at P f h) p)) [
-      inl y ↦ (ap (λ (b : Bool). cond b (stretch-with t (offset-at P f h - 2 * P .error) (offset-at P f h) (end-at P f h) s) s .octet) y
-               ∙ ap (octet-with t (offset-at P f h - 2 * P .error) (offset-at P f h) (end-at P f h)) e
-               ∙ octet-step t (2 * P .error) (offset-at P f h) (end-at P f h) w g (omega arith)
-               ∙ sym (ap (λ b. octet-by ((b && (leb (offset-at P f h) t && ltb t (end-at P f h))) || w) ((b && (ltb t (offset-at P f h) && leb (offset-at P f h) (t + 2 * P .error))) || g)) y))
+    | inl y ↦ (ap (λ (b : Bool). cond b (stretch-with t (offset-at P f h - 2 * P .error) (offset-at P f h) (end-at P f h) s) s .octet) y
+        ∙ ap (octet-with t (offset-at P f h - 2 * P .error) (offset-at P f h) (end-at P f h)) e
+        ∙ octet-step t (2 * P .error) (offset-at P f h) (end-at P f h) w g (omega arith)
+        ∙ sym (ap (λ b. octet-by ((b && (leb (offset-at P f h) t && ltb t (end-at P f h))) || w) ((b && (ltb t (offset-at P f h) && leb (offset-at P f h) (t + 2 * P .error))) || g)) y))
     | inr n ↦ (ap (λ (b : Bool). cond b (stretch-with t (offset-at P f h - 2 * P .error) (offset-at P f h) (end-at P f h) s) s .octet) n
-               ∙ e
-               ∙ sym (ap (λ b. octet-by ((b && (leb (offset-at P f h) t && ltb t (end-at P f h))) || w) ((b && (ltb t (offset-at P f h) && leb (offset-at P f h) (t + 2 * P .error))) || g)) n)) ]
+        ∙ e
+        ∙ sym (ap (λ b. octet-by ((b && (leb (offset-at P f h) t && ltb t (end-at P f h))) || w) ((b && (ltb t (offset-at P f h) && leb (offset-at P f h) (t + 2 * P .error))) || g)) n))
+  ]
 
   hops-octet : (f : ℕ) (s : Stretch) (w g : Bool) → s .octet ≡ octet-by w g → (n : ℕ)
-    → stretch-hops P p t f s n .octet ≡ octet-by (some n (inside P p t f) || w) (some n (ahead P p t f) || g)
+      → stretch-hops P p t f s n .octet ≡ octet-by (some n (inside P p t f) || w) (some n (ahead P p t f) || g)
   hops-octet f s w g e zero = e
   hops-octet f s w g e (suc n) =
-    hop-octet f n (stretch-hops P p t f s n) (some n (inside P p t f) || w) (some n (ahead P p t f) || g) (hops-octet f s w g e n)
+      hop-octet f n (stretch-hops P p t f s n) (some n (inside P p t f) || w) (some n (ahead P p t f) || g) (hops-octet f s w g e n)
       ∙ (λ i. octet-by (or-assoc (inside P p t f n) (some n (inside P p t f)) w i) (or-assoc (ahead P p t f n) (some n (ahead P p t f)) g i))
 
   flows-octet : (n : ℕ) → stretch-flows P p t (open-stretch P) n .octet
-    ≡ octet-by (some n (λ f. some (hop-count P f) (inside P p t f))) (some n (λ f. some (hop-count P f) (ahead P p t f)))
+      ≡ octet-by (some n (λ f. some (hop-count P f) (inside P p t f))) (some n (λ f. some (hop-count P f) (ahead P p t f)))
   flows-octet zero = refl
   flows-octet (suc n) = hops-octet n (stretch-flows P p t (open-stretch P) n) (some n (λ f. some (hop-count P f) (inside P p t f))) (some n (λ f. some (hop-count P f) (ahead P p t f))) (flows-octet n) (hop-count P n)
 

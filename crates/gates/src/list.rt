@@ -8,7 +8,6 @@ use crate::entry::GateEntry;
 pub mod make;
 pub mod stretch;
 
-
 /// The entries of one port in time order: none is empty, and they total the cycle.
 #[derive(Drop)]
 pub struct GateList {

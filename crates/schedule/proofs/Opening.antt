@@ -29,20 +29,20 @@ module _ (ports : List Port) (delays : List ℕ) (e : ports-allowed delays ≡ t
 
   pub ports-held : Ports-held ports
   ports-held =
-    let (a, b) = and-parts (within 1 16 (length delays)) (each-below 25001 delays) e in
-    let low = within-low 1 16 (length delays) a in
-    let high = within-high 1 16 (length delays) a in
-    let n = long in
-    (omega arith, omega arith)
+      let (a, b) = and-parts (within 1 16 (length delays)) (each-below 25001 delays) e in
+      let low = within-low 1 16 (length delays) a in
+      let high = within-high 1 16 (length delays) a in
+      let n = long in
+      (omega arith, omega arith)
 
   pub delays-held : Delays-held ports
   delays-held p h =
-    let (a, b) = and-parts (within 1 16 (length delays)) (each-below 25001 delays) e in
-    let n = long in
-    let low = each-below-at 25001 delays b p (omega arith) in
-    let at : getD ports p no-port ≡ port-with (getD delays p 0) = ap (λ (l : List Port). getD l p no-port) is ∙ getD-map port-with delays p 0 no-port (omega arith) in
-    let d = ap (λ (x : Port). x .delay) at in
-    omega arith
+      let (a, b) = and-parts (within 1 16 (length delays)) (each-below 25001 delays) e in
+      let n = long in
+      let low = each-below-at 25001 delays b p (omega arith) in
+      let at : getD ports p no-port ≡ port-with (getD delays p 0) = ap (λ (l : List Port). getD l p no-port) is ∙ getD-map port-with delays p 0 no-port (omega arith) in
+      let d = ap (λ (x : Port). x .delay) at in
+      omega arith
 
 module _ (cycle ports : ℕ) (flows : List Flow) (windows : List Window) (no-flows : flows ≡ []) (no-windows : windows ≡ []) where
   flowless : length flows ≡ 0

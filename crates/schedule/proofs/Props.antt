@@ -11,12 +11,13 @@ apart-prop P f h g k x y i = record { differ = ¬-prop (x .differ) (y .differ) i
 
 keeps-prop : (P : Plan) (f h : ℕ) → IsProp (Keeps-rules P f h)
 keeps-prop P f h x y i = record {
-    guarded = le-prop (x .guarded) (y .guarded) i;
-    ends = le-prop (x .ends) (y .ends) i;
-    reached = le-prop (x .reached) (y .reached) i;
-    delivered = →-prop le-prop (x .delivered) (y .delivered) i;
-    meets = →-prop le-prop (x .meets) (y .meets) i;
-    apart = Π-prop (λ g. →-prop (Π-prop (λ k. →-prop (→-prop (apart-prop P f h g k))))) (x .apart) (y .apart) i }
+  guarded = le-prop (x .guarded) (y .guarded) i;
+  ends = le-prop (x .ends) (y .ends) i;
+  reached = le-prop (x .reached) (y .reached) i;
+  delivered = →-prop le-prop (x .delivered) (y .delivered) i;
+  meets = →-prop le-prop (x .meets) (y .meets) i;
+  apart = Π-prop (λ g. →-prop (Π-prop (λ k. →-prop (→-prop (apart-prop P f h g k))))) (x .apart) (y .apart) i;
+}
 
 good-prop : (P : Plan) → IsProp (Good P)
 good-prop P = Π-prop (λ f. →-prop (Π-prop (λ h. →-prop (keeps-prop P f h))))

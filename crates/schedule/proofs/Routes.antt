@@ -20,15 +20,15 @@ module _ (d : Draft) (f : ℕ) (lf : f < flow-count (plan-of d)) where
 
   hops-length : length hops ≡ hop-count (plan-of d) f
   hops-length = length-take-le (hop-count (plan-of d) f) (drop (flow-at (plan-of d) f .first) (vec-items (d .windows)))
-    (omega (arith, d .stretches f lf .2, length-drop (flow-at (plan-of d) f .first) (vec-items (d .windows))))
+      (omega (arith, d .stretches f lf .2, length-drop (flow-at (plan-of d) f .first) (vec-items (d .windows))))
 
   route-at : (h : ℕ) → h < hop-count (plan-of d) f → getD (map (λ (w : Window). w .port) hops) h 0 ≡ port-at (plan-of d) f h
   route-at h lt =
-    getD-map (λ (w : Window). w .port) hops h no-window 0 (omega (arith, hops-length))
+      getD-map (λ (w : Window). w .port) hops h no-window 0 (omega (arith, hops-length))
       ∙ ap (λ (w : Window). w .port) (getD-take (hop-count (plan-of d) f) (drop (flow-at (plan-of d) f .first) (vec-items (d .windows))) h no-window lt
-          ∙ getD-drop (flow-at (plan-of d) f .first) (vec-items (d .windows)) h no-window)
+      ∙ getD-drop (flow-at (plan-of d) f .first) (vec-items (d .windows)) h no-window)
 
   pub ports-apart : (h k : ℕ) → h < k → k < hop-count (plan-of d) f → port-at (plan-of d) f h ≡ port-at (plan-of d) f k → ⊥
   ports-apart h k lt lk e =
-    differ-apart (vec-len (d .ports)) (map (λ (w : Window). w .port) hops) (d .routes f lf) h k lt (omega (arith, hops-length, length-map hops (λ (w : Window). w .port)))
+      differ-apart (vec-len (d .ports)) (map (λ (w : Window). w .port) hops) (d .routes f lf) h k lt (omega (arith, hops-length, length-map hops (λ (w : Window). w .port)))
       (route-at h (omega arith) ∙ e ∙ sym (route-at k lk))

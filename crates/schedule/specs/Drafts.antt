@@ -60,9 +60,13 @@ windows-along (p ∷ ps) (o ∷ os) = record { port = p; offset = o } ∷ window
 -- the plan with one flow more, behind the others
 abbrev pub with-flow : Plan → ℕ → ℕ → ℕ → List ℕ → List ℕ → Plan
 with-flow P release octets deadline route offsets = record {
-    cycle = P .cycle; error = P .error; extension = P .extension; ports = P .ports;
-    flows = P .flows ++ record { release = release; octets = octets; deadline = deadline; first = length (P .windows); hops = length route } ∷ [];
-    windows = P .windows ++ windows-along route offsets }
+  cycle = P .cycle;
+  error = P .error;
+  extension = P .extension;
+  ports = P .ports;
+  flows = P .flows ++ record { release = release; octets = octets; deadline = deadline; first = length (P .windows); hops = length route } ∷ [];
+  windows = P .windows ++ windows-along route offsets;
+}
 
 -- adding replies the number of the flow, which the draft then holds; a refusal leaves the draft as it was
 abbrev pub Adds : Draft → ℕ → ℕ → ℕ → List ℕ → List ℕ → Result ℕ FlowRefusal → Draft → Type 0

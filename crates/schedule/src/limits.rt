@@ -13,13 +13,17 @@ pub const MAX_WINDOWS: usize = MAX_FLOWS * MAX_HOPS;
 pub const MAX_PORTS: usize = 16;
 /// The longest delay of a link, and the longest deadline.
 pub const MAX_DELAY: u64 = 25_000;
+
 pub const MAX_DEADLINE: u64 = 1_250_000;
 /// The shortest and the longest cycle, and the largest clock error.
 pub const MIN_CYCLE: u64 = 1_000;
+
 pub const MAX_CYCLE: u64 = 1_250_000;
+
 pub const MAX_ERROR: u64 = 125;
 /// The fewest and the most octets of a frame.
 pub const MIN_OCTETS: u64 = 64;
+
 pub const MAX_OCTETS: u64 = 1_522;
 /// What the wire time of a frame adds to its octets: preamble, start delimiter and the gap between frames.
 pub const FRAME_OVERHEAD: u64 = 20;
@@ -50,7 +54,9 @@ pub(crate) fn are_ports_allowed(delays: &[u64]) -> bool
 pub(crate) fn is_flow_allowed(cycle: u64, release: u64, octets: u64, deadline: u64) -> bool
     ensures { λ r. ⌜ r ≡ flow-allowed cycle release octets deadline ⌝ }
 {
-    release < cycle && ((MIN_OCTETS <= octets && octets <= MAX_OCTETS) && (1 <= deadline && deadline <= MAX_DEADLINE))
+    release < cycle
+        && ((MIN_OCTETS <= octets && octets <= MAX_OCTETS)
+            && (1 <= deadline && deadline <= MAX_DEADLINE))
 }
 
 fn is_among(n: u64, numbers: &[u64]) -> bool

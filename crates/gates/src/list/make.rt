@@ -38,8 +38,14 @@ impl GateList {
             begun = edge;
         }
         let ticks = (cycle - begun) as u32;
-        entries.push_reserved(GateEntry { octet: stretch.octet, ticks });
-        Ok(GateList { cycle: plan.cycle(), entries })
+        entries.push_reserved(GateEntry {
+            octet: stretch.octet,
+            ticks,
+        });
+        Ok(GateList {
+            cycle: plan.cycle(),
+            entries,
+        })
     }
 
     pub fn cycle(&self) -> u32

@@ -23,7 +23,11 @@ pub struct Stretch {
 fn nearer(tick: u64, edge: u64, next: u64) -> u64
     ensures { λ r. ⌜ r ≡ nearer-edge tick edge next ⌝ }
 {
-    if tick < edge && edge < next { edge } else { next }
+    if tick < edge && edge < next {
+        edge
+    } else {
+        next
+    }
 }
 
 // A window shuts the ordinary classes from its guard band on, and opens class 7 from its begin on.
@@ -57,7 +61,14 @@ impl Stretch {
 }
 
 // The window of one hop, which counts if it is at the port.
-fn with_hop(plan: &CheckedPlan, port: usize, tick: u64, flow: usize, hop: usize, stretch: Stretch) -> Stretch
+fn with_hop(
+    plan: &CheckedPlan,
+    port: usize,
+    tick: u64,
+    flow: usize,
+    hop: usize,
+    stretch: Stretch,
+) -> Stretch
     requires { ⌜ Has-hop (checked-plan (now plan)) flow hop ⌝ }
     ensures { λ r. ⌜ r ≡ stretch-at (checked-plan (now (plan .entry))) port tick flow hop stretch ⌝ }
 {

@@ -54,7 +54,7 @@ impl CheckedPlan {
             return Err(CertificateRefusal::AbsentFlow);
         }
         let Flow { release, hops, .. } = self.draft.flow(flow);
-        let earliest = self.draft.early(flow, hops) - self.draft.error();
+        let earliest = self.draft.early(flow, hops) - self.error();
         let latest = self.draft.late(flow, hops);
         Ok((earliest - release, latest - release))
     }
@@ -69,6 +69,9 @@ impl CheckedPlan {
         if hop >= self.draft.flow(flow).hops {
             return None;
         }
-        Some((self.draft.early(flow, hop) - self.draft.error(), self.draft.late(flow, hop)))
+        Some((
+            self.draft.early(flow, hop) - self.error(),
+            self.draft.late(flow, hop),
+        ))
     }
 }

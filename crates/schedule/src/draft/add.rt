@@ -49,7 +49,12 @@ impl Draft {
         if self.flows.len() >= MAX_FLOWS {
             return Err(FlowRefusal::DraftFull);
         }
-        if !is_flow_allowed(self.cycle as u64, request.release, request.octets, request.deadline) {
+        if !is_flow_allowed(
+            self.cycle as u64,
+            request.release,
+            request.octets,
+            request.deadline,
+        ) {
             return Err(FlowRefusal::FlowBeyondLimits);
         }
         if !is_route_allowed(self.ports.len(), request.route) {

@@ -24,14 +24,22 @@ fn ports_with(heap: Global, delays: &[u64]) -> Result<Vec<Port>, AllocError>
 {
     let mut ports = Vec::with_capacity(heap, delays.len())?;
     for delay in delays {
-        ports.push(Port { delay: *delay as u32 })?;
+        ports.push(Port {
+            delay: *delay as u32,
+        })?;
     }
     Ok(ports)
 }
 
 impl Draft {
     /// An empty draft. Memory for the most that a plan can hold is reserved here, so that no later call lacks any.
-    pub fn open(heap: Global, cycle: u64, error: u64, extension: u64, delays: &[u64]) -> Result<Draft, OpenRefusal>
+    pub fn open(
+        heap: Global,
+        cycle: u64,
+        error: u64,
+        extension: u64,
+        delays: &[u64],
+    ) -> Result<Draft, OpenRefusal>
         ensures { λ r. ⌜ Opens cycle error extension (now (delays .entry)) r ⌝ }
     {
         if !is_timing_allowed(cycle, error, extension) {

@@ -165,7 +165,12 @@ impl Draft {
         requires { ⌜ Has-hop (plan-of (now self)) flow hop ⌝ }
         ensures { λ r. ⌜ Decides r (Meets-deadline (plan-of (now (self .entry))) flow hop) ⌝ }
     {
-        let Flow { release, deadline, hops, .. } = self.flow(flow);
+        let Flow {
+            release,
+            deadline,
+            hops,
+            ..
+        } = self.flow(flow);
         if hop + 1 < hops {
             return true;
         }

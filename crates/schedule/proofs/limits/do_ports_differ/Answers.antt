@@ -18,7 +18,7 @@ returns-then-is-among c =
     let p = getD (c .args .route .now) (c .loop-hop .hop) 0 in
     let seen = sym (c .if-is-among .ensures tt ∙ ap (among p) (take-rest (c .args .route .now) (c .loop-hop .hop + 1))) in
     sym (sym (c .loop-hop .inv) ∙ at-drop-more (ports-differ (c .args .count)) (c .args .route .now) (c .loop-hop .hop) 0 (omega arith)
-      ∙ and-right _ _ (and-left _ _ (not-from-true _ seen)))
+    ∙ and-right _ _ (and-left _ _ (not-from-true _ seen)))
 
 pub loop-hop-again : need.loop-hop-again
 loop-hop-again c =

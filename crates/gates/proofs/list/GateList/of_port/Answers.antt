@@ -28,27 +28,29 @@ pub loop-stretch-less-then-stretch-octet : need.loop-stretch-less-then-stretch-o
 loop-stretch-less-then-stretch-octet c = let h = further (need.at·loop-stretch-less-then-stretch-octet c .After-stretch-from-stretch-in-loop-stretch) in omega arith
 
 pub loop-stretch-again-then-stretch-octet : need.loop-stretch-again-then-stretch-octet
-loop-stretch-again-then-stretch-octet c =
-    (running-on (c .args .plan .now) (c .args .port) (vec-items (c .loop-stretch .entries)) (c .loop-stretch .begun) (c .loop-stretch .stretch) (c .loop-stretch .inv .0)
+loop-stretch-again-then-stretch-octet c = (
+  running-on (c .args .plan .now) (c .args .port) (vec-items (c .loop-stretch .entries)) (c .loop-stretch .begun) (c .loop-stretch .stretch) (c .loop-stretch .inv .0)
       (omega (arith, c .cycle-cycle .ensures)) (c .stretch-from-stretch-in-loop-stretch .result) (c .stretch-from-stretch-in-loop-stretch .ensures) (c .if-stretch-octet .taken),
-     c .loop-stretch .inv .1)
+  c .loop-stretch .inv .1,
+)
 
 pub loop-stretch-less : need.loop-stretch-less
 loop-stretch-less c = let h = further (need.at·loop-stretch-less c .After-stretch-from-stretch-in-loop-stretch) in omega arith
 
 pub loop-stretch-again : need.loop-stretch-again
-loop-stretch-again c =
-    (running-push (c .args .plan .now) (c .args .port) (vec-items (c .loop-stretch .entries)) (c .loop-stretch .begun) (c .loop-stretch .stretch) (c .loop-stretch .inv .0)
+loop-stretch-again c = (
+  running-push (c .args .plan .now) (c .args .port) (vec-items (c .loop-stretch .entries)) (c .loop-stretch .begun) (c .loop-stretch .stretch) (c .loop-stretch .inv .0)
       (omega (arith, c .cycle-cycle .ensures)) (c .stretch-from-stretch-in-loop-stretch .result) (c .stretch-from-stretch-in-loop-stretch .ensures) (c .if-stretch-octet .left)
       (vec-items (c .push-reserved .last .self)) (c .push-reserved .ensures .items),
-     omega (arith, c .push-reserved .ensures .capacity))
+  omega (arith, c .push-reserved .ensures .capacity),
+)
 
 whole-list : (c : need.After-push-reserved-2) → Gate-list (checked-plan (c .args .plan .now)) (c .args .port) (vec-items (c .push-reserved-2 .last .self))
 whole-list c =
     let es = vec-items (c .loop-stretch .entries) in
     let entry : ℕ → GateEntry = λ n. record { octet = c .loop-stretch .stretch .octet; ticks = n - c .loop-stretch .begun } in
     finished (c .args .plan .now) (c .args .port) es (c .loop-stretch .begun) (c .loop-stretch .stretch) (c .loop-stretch .inv .0)
-      (omega (arith, c .cycle-cycle .ensures)) (vec-items (c .push-reserved-2 .last .self)) (c .push-reserved-2 .ensures .items ∙ ap (λ n. es ++ entry n ∷ []) (c .cycle-cycle .ensures))
+    (omega (arith, c .cycle-cycle .ensures)) (vec-items (c .push-reserved-2 .last .self)) (c .push-reserved-2 .ensures .items ∙ ap (λ n. es ++ entry n ∷ []) (c .cycle-cycle .ensures))
 
 pub ghost-result : need.ghost-result
 ghost-result c =

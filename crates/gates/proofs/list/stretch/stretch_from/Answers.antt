@@ -12,7 +12,7 @@ pub loop-flow-again : need.loop-flow-again
 loop-flow-again c =
     let P = checked-plan (c .args .plan .now) in
     c .with-flow-stretch .ensures ∙ ap (λ (s : Stretch). stretch-hops P (c .args .port) (c .args .tick) (c .loop-flow .flow) s (hop-count P (c .loop-flow .flow))) (c .loop-flow .inv)
-      ∙ ap (stretch-flows P (c .args .port) (c .args .tick) (open-stretch P)) (sym (add-one (c .loop-flow .flow)))
+    ∙ ap (stretch-flows P (c .args .port) (c .args .tick) (open-stretch P)) (sym (add-one (c .loop-flow .flow)))
 
 pub returns : need.returns
 unfolding stretch-from

@@ -16,7 +16,7 @@ pub loop-hop-again : need.loop-hop-again
 loop-hop-again c =
     let P = checked-plan (c .args .plan .now) in
     c .with-hop-stretch .ensures ∙ ap (stretch-at P (c .args .port) (c .args .tick) (c .args .flow) (c .loop-hop .hop)) (c .loop-hop .inv)
-      ∙ ap (stretch-hops P (c .args .port) (c .args .tick) (c .args .flow) (c .args .start)) (sym (add-one (c .loop-hop .hop)))
+    ∙ ap (stretch-hops P (c .args .port) (c .args .tick) (c .args .flow) (c .args .start)) (sym (add-one (c .loop-hop .hop)))
 
 pub returns : need.returns
 returns c =

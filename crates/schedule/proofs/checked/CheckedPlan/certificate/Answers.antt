@@ -54,8 +54,9 @@ returns c =
     let l = c .late-latest .ensures .is ∙ ap (late-at P f) hops in
     let past = early-past P f (keeps d) (hop-count P f) (omega arith) in
     let both = late-early P f (hop-count P f) (some-hops d) in
-    let met = delivered-in-time P f (keeps d) (some-hops d) in
-    (search needs,
-     (λ i. (e i - c .error .ensures i - release i, l i - release i)),
-     omega (arith, c .error .ensures),
-     omega arith)
+    let met = delivered-in-time P f (keeps d) (some-hops d) in (
+      search needs,
+      (λ i. (e i - c .error .ensures i - release i, l i - release i)),
+      omega (arith, c .error .ensures),
+      omega arith,
+    )

@@ -29,6 +29,9 @@ sub-result c = omega (arith, early (need.at·sub-result c .After-early), c .erro
 
 pub returns : need.returns
 returns c =
-    let d = need.at·returns c .After-early in
-    ((present d, hop-in d), (λ i. (c .early .ensures .is i - c .error .ensures i, c .late .ensures .is i)),
-     omega (arith, early d, c .error .ensures), omega (arith, keeps d (c .args .hop) (hop-in d) .reached, c .late .ensures .is))
+    let d = need.at·returns c .After-early in (
+      (present d, hop-in d),
+      (λ i. (c .early .ensures .is i - c .error .ensures i, c .late .ensures .is i)),
+      omega (arith, early d, c .error .ensures),
+      omega (arith, keeps d (c .args .hop) (hop-in d) .reached, c .late .ensures .is),
+    )

@@ -18,9 +18,11 @@ push-windows-requires c κs =
     let offsets = c .args .offsets .now in
     let spaced = sym (c .if-not-are-offsets-allowed .ensures tt) in
     let most = routed-most (c .len-2 .result) route (sym (c .if-not-is-route-allowed .ensures tt)) in
-    record { same-length = spaced-length (d .cycle) route offsets spaced;
+    record {
+      same-length = spaced-length (d .cycle) route offsets spaced;
       room = omega (arith, d .tables, d .reserved, d .windows .ok .0, d .flows .ok .0, c .len .ensures);
-      fits = λ i h. let lt = spaced-below (d .cycle) route offsets spaced i h in let m = d .timing .1 in omega arith }
+      fits = λ i h. let lt = spaced-below (d .cycle) route offsets spaced i h in let m = d .timing .1 in omega arith;
+    }
 
 pub ghost-self : need.ghost-self
 ghost-self c =
@@ -40,6 +42,6 @@ ghost-self c =
     let is-fs = c .push-reserved .ensures .items ∙ ap (λ i. fs ++ flow i ∷ []) first in
     let is-ws = c .push-windows .ensures .items in
     let held = held-after-add (d .cycle) n fs ws (d .tables) (d .allowed) (d .stretches) (d .placed) (d .routes) few (r .release) (r .octets) (r .deadline) route offsets allowed routed spaced
-      (vec-items (c .push-reserved .last .self)) (vec-items (c .push-windows .last .windows)) is-fs is-ws in
+    (vec-items (c .push-reserved .last .self)) (vec-items (c .push-windows .last .windows)) is-fs is-ws in
     let room : (16 ≤ vec-cap (c .push-reserved .last .self)) × (96 ≤ vec-cap (c .push-windows .last .windows)) = (omega (arith, d .reserved, c .push-reserved .ensures .capacity), omega (arith, d .reserved, c .push-windows .ensures .capacity)) in
     (d .timing, (d .counted, (d .delayed, (held .0, (held .1, (held .2, (held .3, (held .4, (room, tt)))))))))

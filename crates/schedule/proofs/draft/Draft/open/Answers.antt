@@ -17,7 +17,22 @@ ghost-result c =
     let windows = c .in-Continue-windows .ensures tt .made in
     let fs = vec-items (c .in-Continue-flows .flows) in
     let ws = vec-items (c .in-Continue-windows .windows) in
-    let n = vec-len (c .in-Continue-ports .ports) in
-    (timing, (ports-held ports (c .args .delays .now) allowed made, (delays-held ports (c .args .delays .now) allowed made,
-      (tables-empty (c .args .cycle) n fs ws (flows .0) (windows .0), (flows-empty (c .args .cycle) n fs ws (flows .0) (windows .0), (stretches-empty (c .args .cycle) n fs ws (flows .0) (windows .0),
-      (windows-empty (c .args .cycle) n fs ws (flows .0) (windows .0), (routes-empty (c .args .cycle) n fs ws (flows .0) (windows .0), ((flows .1 .1, windows .1 .1), tt)))))))))
+    let n = vec-len (c .in-Continue-ports .ports) in (
+      timing,
+      (
+        ports-held ports (c .args .delays .now) allowed made,
+        (
+          delays-held ports (c .args .delays .now) allowed made,
+          (
+            tables-empty (c .args .cycle) n fs ws (flows .0) (windows .0),
+            (
+              flows-empty (c .args .cycle) n fs ws (flows .0) (windows .0),
+              (
+                stretches-empty (c .args .cycle) n fs ws (flows .0) (windows .0),
+                (windows-empty (c .args .cycle) n fs ws (flows .0) (windows .0), (routes-empty (c .args .cycle) n fs ws (flows .0) (windows .0), ((flows .1 .1, windows .1 .1), tt))),
+              ),
+            ),
+          ),
+        ),
+      ),
+    )

@@ -24,10 +24,12 @@ loop-hop-again c =
     let was = vec-items (c .args .windows .now) in
     let front = take (c .loop-hop .hop) (windows-along ps os) in
     let more = take-more (windows-along ps os) (c .loop-hop .hop) no-window (omega arith) in
-    let at = along-at ps os (c .pre .same-length) (c .loop-hop .hop) (omega arith) in
-    (c .push-reserved .ensures .items ∙ ap (λ l. l ++ w ∷ []) (c .loop-hop .inv .0) ∙ append-assoc was front (w ∷ [])
-      ∙ ap (λ (x : Window). was ++ (front ++ x ∷ [])) (sym at) ∙ ap (λ l. was ++ l) (sym more),
-     omega (arith, c .push-reserved .ensures .len), c .push-reserved .ensures .capacity ∙ c .loop-hop .inv .2)
+    let at = along-at ps os (c .pre .same-length) (c .loop-hop .hop) (omega arith) in (
+      c .push-reserved .ensures .items ∙ ap (λ l. l ++ w ∷ []) (c .loop-hop .inv .0) ∙ append-assoc was front (w ∷ [])
+          ∙ ap (λ (x : Window). was ++ (front ++ x ∷ [])) (sym at) ∙ ap (λ l. was ++ l) (sym more),
+      omega (arith, c .push-reserved .ensures .len),
+      c .push-reserved .ensures .capacity ∙ c .loop-hop .inv .2,
+    )
 
 pub returns : need.returns
 returns c =

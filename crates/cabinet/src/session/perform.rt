@@ -1,0 +1,115 @@
+// The calls of a scenario, one at a time.
+ghost use mathlib.Core.Path.{_≡_};
+ghost use Rattle.scenario.specs.Lines.{asks};
+ghost use Rattle.cabinet.specs.Sessions.{fresh, Opens-session, Adds-to, Checks-of, certificate-reply, Gates-of, Performs};
+use super::Session;
+use crate::reply::Missing;
+use crate::reply::Reply;
+use gates::list::GateList;
+use scenario::call::Call;
+use schedule::draft::Draft;
+use schedule::draft::add::FlowRequest;
+use std::alloc::AllocError;
+use std::alloc::Global;
+
+impl Session {
+    /// A session with nothing in hand.
+    pub fn new() -> Session
+        ensures { λ r. ⌜ r ≡ fresh ⌝ }
+    {
+        Session {
+            draft: None,
+            plan: None,
+        }
+    }
+
+    // A new draft takes the place of the one before.
+    fn open(&mut self, heap: Global, cycle: u64, error: u64, extension: u64, delays: &[u64]) -> Result<Reply, AllocError>
+        ensures { λ r. ⌜ Opens-session (now (self .entry)) cycle error extension (now (delays .entry)) r (now (self .exit)) ⌝ }
+    {
+        match Draft::open(heap, cycle, error, extension, delays) {
+            Ok(draft) => {
+                self.draft = Some(draft);
+                Ok(Reply::Opened)
+            }
+            Err(refusal) => match refusal.number() {
+                Some(number) => Ok(Reply::Refused { number }),
+                None => Err(AllocError),
+            },
+        }
+    }
+
+    fn add(&mut self, request: FlowRequest<'_>, offsets: &[u64]) -> Reply
+        ensures { λ r. ⌜ Adds-to (now (self .entry) .draft) (now (self .entry)) (request .entry .release) (request .entry .octets) (request .entry .deadline) (now (request .entry .route)) (now (offsets .entry)) r (now (self .exit)) ⌝ }
+    {
+        let Some(draft) = &mut self.draft else {
+            return Reply::OutOfOrder { missing: Missing::Draft };
+        };
+        match draft.add(request, offsets) {
+            Ok(flow) => Reply::Added { flow },
+            Err(refusal) => Reply::Refused { number: refusal.number() },
+        }
+    }
+
+    // The draft becomes the checked plan, or stays a draft.
+    fn check(&mut self) -> Reply
+        ensures { λ r. ⌜ Checks-of (now (self .entry) .draft) (now (self .entry)) r (now (self .exit)) ⌝ }
+    {
+        let Some(draft) = self.draft.take() else {
+            return Reply::OutOfOrder { missing: Missing::Draft };
+        };
+        match draft.check() {
+            Ok(plan) => {
+                self.plan = Some(plan);
+                Reply::Checked
+            }
+            Err((fault, draft)) => {
+                self.draft = Some(draft);
+                Reply::Faulty { fault }
+            }
+        }
+    }
+
+    fn certificate(&self, flow: u64) -> Reply
+        ensures { λ r. ⌜ r ≡ certificate-reply (now (self .entry) .plan) flow ⌝ }
+    {
+        let Some(plan) = &self.plan else {
+            return Reply::OutOfOrder { missing: Missing::CheckedPlan };
+        };
+        match plan.certificate(flow as usize) {
+            Ok((least, greatest)) => Reply::Certificate { least, greatest },
+            Err(refusal) => Reply::Refused { number: refusal.number() },
+        }
+    }
+
+    fn gates(&self, heap: Global, port: u64) -> Result<Reply, AllocError>
+        ensures { λ r. ⌜ Gates-of (now (self .entry) .plan) port r ⌝ }
+    {
+        let Some(plan) = &self.plan else {
+            return Ok(Reply::OutOfOrder { missing: Missing::CheckedPlan });
+        };
+        match GateList::of_port(heap, plan, port as usize) {
+            Ok(list) => Ok(Reply::Gates { list }),
+            Err(refusal) => match refusal.number() {
+                Some(number) => Ok(Reply::Refused { number }),
+                None => Err(AllocError),
+            },
+        }
+    }
+
+    /// Does one call. Want of memory leaves everything as it was.
+    pub fn perform(&mut self, heap: Global, call: Call) -> Result<Reply, AllocError>
+        ensures { λ r. ⌜ Performs (now (self .entry)) (asks call) r (now (self .exit)) ⌝ }
+    {
+        match call {
+            Call::Open { cycle, error, extension, delays } => self.open(heap, cycle, error, extension, delays.as_slice()),
+            Call::Add { release, octets, deadline, route, offsets } => {
+                let route = route.as_slice();
+                Ok(self.add(FlowRequest { release, octets, deadline, route }, offsets.as_slice()))
+            }
+            Call::Check => Ok(self.check()),
+            Call::Certificate { flow } => Ok(self.certificate(flow)),
+            Call::Gates { port } => self.gates(heap, port),
+        }
+    }
+}

@@ -1,0 +1,9 @@
+use Rattle.std.specs.Of.Vec.{vec-items}
+use Rattle.scenario.specs.Texts.{left}
+use Rattle.scenario.specs.Lines.{numerals-until}
+use Rattle.scenario.proofs.Lists.{until-more}
+use Rattle.scenario.proofs.words.Words.numbers_until.Needs as need
+
+pub loop-word-again : need.loop-word-again
+loop-word-again c =
+    until-more (left (c .loop-word .self)) (left (c .next-word .last .self)) (vec-items (c .loop-word .numbers)) (vec-items (c .push .last .self)) (c .in-Some .word .now) (c .in-Continue-read-number .field-0) (c .in-Some .ensures tt) (c .in-Continue-read-number .ensures tt) (c .in-Continue-push .ensures tt .items) (c .args .key .now) (c .if-is-word .ensures tt) (numerals-until (c .args .key .now) (left (c .args .self .now))) (c .loop-word .inv)
