@@ -125,5 +125,8 @@ fn certificates_and_reaches(rt: LibcRuntime) -> Result<(), Fail> {
     check_eq(plan.flows().len(), 1)?;
     check_eq(plan.windows().len(), 2)?;
     check_eq(plan.ports().len(), 2)?;
-    check_eq((plan.cycle(), plan.error(), plan.extension()), (10_000, 10, 200))
+    check_eq(
+        (plan.cycle(), plan.error(), plan.extension()),
+        (10_000, 10, 200),
+    )
 }

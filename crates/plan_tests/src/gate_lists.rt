@@ -40,7 +40,10 @@ fn has_entries(list: &GateList, wanted: &[(u8, u32)]) -> Result<(), Fail> {
 fn touching_windows_are_one_entry(rt: LibcRuntime) -> Result<(), Fail> {
     let heap = rt.alloc();
     let plan = planned(heap, 0, &[(0, 0), (120, 120)])?;
-    has_entries(&GateList::of_port(heap, &plan, 0)?, &[(0x80, 240), (0x7F, 760)])?;
+    has_entries(
+        &GateList::of_port(heap, &plan, 0)?,
+        &[(0x80, 240), (0x7F, 760)],
+    )?;
     let plan = planned(heap, 0, &[(0, 879)])?;
     has_entries(
         &GateList::of_port(heap, &plan, 0)?,
@@ -61,7 +64,20 @@ fn guard_bands_stand_before_windows(rt: LibcRuntime) -> Result<(), Fail> {
     let heap = rt.alloc();
     let plan = planned(heap, 10, &[(0, 20), (290, 300)])?;
     let list = GateList::of_port(heap, &plan, 0)?;
-    has_entries(&list, &[(0x00, 20), (0x80, 140), (0x7F, 120), (0x00, 20), (0x80, 140), (0x7F, 560)])?;
-    let window = GateEntry { octet: 0x80, ticks: 1 };
+    has_entries(
+        &list,
+        &[
+            (0x00, 20),
+            (0x80, 140),
+            (0x7F, 120),
+            (0x00, 20),
+            (0x80, 140),
+            (0x7F, 560),
+        ],
+    )?;
+    let window = GateEntry {
+        octet: 0x80,
+        ticks: 1,
+    };
     check(window.is_open(7) && !window.is_open(0) && !window.is_open(8))
 }

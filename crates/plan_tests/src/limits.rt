@@ -74,7 +74,10 @@ fn flows_at_their_edges(rt: LibcRuntime) -> Result<(), Fail> {
         (0, 64, 1_250_001, 2),
         (u64::MAX, 64, 1, 2),
     ] {
-        check_eq(adding(&mut draft, flow(release, octets, deadline, &[0]), &[0]), number)?;
+        check_eq(
+            adding(&mut draft, flow(release, octets, deadline, &[0]), &[0]),
+            number,
+        )?;
     }
     Ok(())
 }
@@ -84,8 +87,14 @@ fn routes_and_offsets_at_their_edges(rt: LibcRuntime) -> Result<(), Fail> {
     let heap = rt.alloc();
     let mut draft = Draft::open(heap, 1_000, 0, 0, &[0; 8])?;
     check_eq(adding(&mut draft, flow(0, 64, 1, &[]), &[]), 3)?;
-    check_eq(adding(&mut draft, flow(0, 64, 1, &[7, 0, 1, 2, 3, 4]), &[0; 6]), 0)?;
-    check_eq(adding(&mut draft, flow(0, 64, 1, &[0, 1, 2, 3, 4, 5, 6]), &[0; 7]), 3)?;
+    check_eq(
+        adding(&mut draft, flow(0, 64, 1, &[7, 0, 1, 2, 3, 4]), &[0; 6]),
+        0,
+    )?;
+    check_eq(
+        adding(&mut draft, flow(0, 64, 1, &[0, 1, 2, 3, 4, 5, 6]), &[0; 7]),
+        3,
+    )?;
     check_eq(adding(&mut draft, flow(0, 64, 1, &[8]), &[0]), 3)?;
     check_eq(adding(&mut draft, flow(0, 64, 1, &[0, 1, 0]), &[0; 3]), 3)?;
     check_eq(adding(&mut draft, flow(0, 64, 1, &[0, 1]), &[0]), 5)?;
@@ -102,7 +111,10 @@ fn a_full_draft_takes_no_more(rt: LibcRuntime) -> Result<(), Fail> {
     let heap = rt.alloc();
     let mut draft = Draft::open(heap, 10_000, 0, 0, &[0])?;
     for n in 0..16u64 {
-        check_eq(draft.add(flow(n * 100, 64, 1_000, &[0]), &[n * 100])?, n as usize)?;
+        check_eq(
+            draft.add(flow(n * 100, 64, 1_000, &[0]), &[n * 100])?,
+            n as usize,
+        )?;
     }
     check_eq(adding(&mut draft, flow(0, 0, 0, &[]), &[]), 1)
 }

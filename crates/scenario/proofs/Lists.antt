@@ -1,15 +1,17 @@
 -- One more number of a list of numbers: `at` is what was left before its word, `behind` what is left after it.
 use mathlib.Core.Path.{_≡_, refl, sym, ap, _∙_}
-use mathlib.Core.Bool.{false}
+use mathlib.Core.Bool.{true, false}
+use mathlib.Core.Logic.{_⊎_, inl, inr}
 use mathlib.Core.List.{List, [], _∷_, _++_, append-assoc}
 use Prim.Native.Nat.{ℕ}
+use Rattle.std.specs.Results.{isOk}
 use Rattle.std.specs.shelf.Text.{sameBytes}
 use Rattle.std.specs.declared.result.Result.{Result}
 use Rattle.std.specs.declared.result.Result.the-variants.{Ok, Err}
 use Rattle.std.proofs.shelf.Tests.{cond-false}
 use Rattle.scenario.specs.declared.call.Problem.{Problem}
 use Rattle.scenario.specs.Texts.{number-of}
-use Rattle.scenario.specs.Lines.{Word, _then_, numerals, numerals-until}
+use Rattle.scenario.specs.Lines.{Word, _then_, numerals, numerals-until, begins-number}
 
 -- the numbers xs in front of those that are read to the end
 abbrev pub in-front : List ℕ → List ℕ → Result (List ℕ) Problem
@@ -35,3 +37,8 @@ module _ (at behind : List Word) (xs more : List ℕ) (w : Word) (n : ℕ) (here
   pub until-more : (k : Word) → false ≡ sameBytes w k → (all : Result (List ℕ × List Word) Problem) → all ≡ _then_ (numerals-until k at) (in-front-until xs) → all ≡ _then_ (numerals-until k behind) (in-front-until more)
   until-more k other all inv =
       inv ∙ ap (λ l. _then_ (numerals-until k l) (in-front-until xs)) here ∙ ap (λ r. _then_ r (in-front-until xs)) (cond-false _ _ _ (sym other) ∙ ap (λ r. _then_ r (λ m. _then_ (numerals-until k behind) (in-front-until (m ∷ [])))) (sym is)) ∙ onto-until xs n (numerals-until k behind) ∙ ap (λ l. _then_ (numerals-until k behind) (in-front-until l)) (sym pushed)
+
+-- memory is asked for once a number was read
+pub begun : (start at behind : List Word) (w : Word) (n : ℕ) → at ≡ w ∷ behind → Ok n ≡ number-of w → (at ≡ start) ⊎ (begins-number start ≡ true) → begins-number start ≡ true
+begun start at behind w n here is (inl same) = ap begins-number (sym same ∙ here) ∙ ap isOk (sym is)
+begun start at behind w n here is (inr yet) = yet

@@ -7,6 +7,7 @@ use Prim.Native.Nat.{ℕ}
 use lib.Chars.{codes}
 use Rattle.std.specs.Of.Vec.{vec-items}
 use Rattle.std.specs.Options.{okOr, mapped, valueOr}
+use Rattle.std.specs.Results.{isOk}
 use Rattle.std.specs.shelf.Text.{sameBytes}
 use Rattle.std.specs.declared.option.Option.{Option}
 use Rattle.std.specs.declared.option.Option.the-variants.{Some, None}
@@ -149,6 +150,11 @@ words-have-lists (w ∷ ws) = valueOr (mapped has-lists (name-of w)) false
 -- a line begins such a call
 abbrev pub line-has-lists : List ℕ → Bool
 line-has-lists bs = words-have-lists (words-of (uncommented bs))
+
+-- a number is read first
+abbrev pub begins-number : List Word → Bool
+begins-number [] = false
+begins-number (w ∷ ws) = isOk (number-of w)
 
 -- the problem p is the one found; or memory was wanting, which only lists take
 abbrev pub Fails : {X : Type 0} → Problem → Result X Problem → Bool → Type 0

@@ -1,11 +1,10 @@
 //! Keywords, numbers and lists of numbers read off a line's words.
 ghost use mathlib.Core.Path.{_≡_};
-ghost use mathlib.Core.Bool.{true};
 ghost use Rattle.std.specs.Of.Vec.{vec-items};
 ghost use Rattle.std.specs.Results.{Cases};
 ghost use Rattle.std.specs.declared.result.Result.the-variants.{Ok, Err};
 ghost use Rattle.scenario.specs.Texts.{left};
-ghost use Rattle.scenario.specs.Lines.{keyword, numeral, field, numerals, numerals-until, ends, Fails};
+ghost use Rattle.scenario.specs.Lines.{keyword, numeral, field, numerals, numerals-until, ends, begins-number, Fails};
 use crate::call::Problem;
 use crate::call::ProblemFromRefused;
 use crate::number::read_number;
@@ -53,7 +52,7 @@ impl<'a> Words<'a> {
     }
 
     pub(crate) fn numbers(&mut self, heap: Global) -> Result<Vec<u64>, Problem>
-        ensures { λ r. ⌜ Cases r (λ v. numerals (left (now (self .entry))) ≡ Ok (vec-items v)) (λ p. Fails p (numerals (left (now (self .entry)))) true) ⌝ }
+        ensures { λ r. ⌜ Cases r (λ v. numerals (left (now (self .entry))) ≡ Ok (vec-items v)) (λ p. Fails p (numerals (left (now (self .entry)))) (begins-number (left (now (self .entry))))) ⌝ }
     {
         let mut numbers = Vec::new(heap);
         while let Some(word) = self.next_word() {
@@ -63,7 +62,7 @@ impl<'a> Words<'a> {
     }
 
     pub(crate) fn numbers_until(&mut self, heap: Global, key: &str) -> Result<Vec<u64>, Problem>
-        ensures { λ r. ⌜ Cases r (λ v. numerals-until (now (key .entry)) (left (now (self .entry))) ≡ Ok (vec-items v, left (now (self .exit)))) (λ p. Fails p (numerals-until (now (key .entry)) (left (now (self .entry)))) true) ⌝ }
+        ensures { λ r. ⌜ Cases r (λ v. numerals-until (now (key .entry)) (left (now (self .entry))) ≡ Ok (vec-items v, left (now (self .exit)))) (λ p. Fails p (numerals-until (now (key .entry)) (left (now (self .entry)))) (begins-number (left (now (self .entry))))) ⌝ }
     {
         let mut numbers = Vec::new(heap);
         while let Some(word) = self.next_word() {

@@ -29,12 +29,24 @@ Checks d (Err e) = (e .1 ≡ d) × First-fault (plan-of d) (e .0)
 abbrev pub certificate-refused : Plan → ℕ → Option ℕ
 certificate-refused P f = unless (ltb f (flow-count P)) 22 None
 
--- a certificate is that of the flow: its two transits lie twice the clock error apart, and neither passes the deadline
+-- the transits of a flow: its certificate; the two lie twice the clock error apart, and neither passes the deadline
+pub record Transits (P : Plan) (f : ℕ) (c : ℕ × ℕ) : Type 0 where
+  pub is : c ≡ certificate-of P f
+  pub spread : c .1 ≡ c .0 + 2 * P .error
+  pub in-time : c .1 ≤ deadline-of P f
+
+-- a certificate has the transits of the flow, or the number by which it is refused
 abbrev pub Certifies : Plan → ℕ → Result (ℕ × ℕ) CertificateRefusal → Type 0
-Certifies P f (Ok c) = (certificate-refused P f ≡ None) × (c ≡ certificate-of P f) × (c .1 ≡ c .0 + 2 * P .error) × (c .1 ≤ deadline-of P f)
+Certifies P f (Ok c) = (certificate-refused P f ≡ None) × Transits P f c
 Certifies P f (Err e) = certificate-refused P f ≡ Some (certificate-number e)
 
--- the reach of a hop that there is; the frame cannot come before its release, and is there before the window begins by any clock
+-- the reach of a hop: the frame is not there before its release, and it is there before its window begins by any clock
+pub record Reach (P : Plan) (f h : ℕ) (r : ℕ × ℕ) : Type 0 where
+  pub is : r ≡ reach-of P f h
+  pub released : release-of P f ≤ r .0
+  pub waits : r .1 + P .error ≤ offset-at P f h
+
+-- there is one for each hop, and no other
 abbrev pub Reaches : Plan → ℕ → ℕ → Option (ℕ × ℕ) → Type 0
-Reaches P f h (Some r) = Has-hop P f h × (r ≡ reach-of P f h) × (release-of P f ≤ r .0) × (r .1 + P .error ≤ offset-at P f h)
+Reaches P f h (Some r) = Has-hop P f h × Reach P f h r
 Reaches P f h None = Has-hop P f h → ⊥

@@ -24,7 +24,14 @@ impl Session {
     }
 
     // A new draft takes the place of the one before.
-    fn open(&mut self, heap: Global, cycle: u64, error: u64, extension: u64, delays: &[u64]) -> Result<Reply, AllocError>
+    fn open(
+        &mut self,
+        heap: Global,
+        cycle: u64,
+        error: u64,
+        extension: u64,
+        delays: &[u64],
+    ) -> Result<Reply, AllocError>
         ensures { λ r. ⌜ Opens-session (now (self .entry)) cycle error extension (now (delays .entry)) r (now (self .exit)) ⌝ }
     {
         match Draft::open(heap, cycle, error, extension, delays) {
@@ -43,11 +50,15 @@ impl Session {
         ensures { λ r. ⌜ Adds-to (now (self .entry) .draft) (now (self .entry)) (request .entry .release) (request .entry .octets) (request .entry .deadline) (now (request .entry .route)) (now (offsets .entry)) r (now (self .exit)) ⌝ }
     {
         let Some(draft) = &mut self.draft else {
-            return Reply::OutOfOrder { missing: Missing::Draft };
+            return Reply::OutOfOrder {
+                missing: Missing::Draft,
+            };
         };
         match draft.add(request, offsets) {
             Ok(flow) => Reply::Added { flow },
-            Err(refusal) => Reply::Refused { number: refusal.number() },
+            Err(refusal) => Reply::Refused {
+                number: refusal.number(),
+            },
         }
     }
 
@@ -56,7 +67,9 @@ impl Session {
         ensures { λ r. ⌜ Checks-of (now (self .entry) .draft) (now (self .entry)) r (now (self .exit)) ⌝ }
     {
         let Some(draft) = self.draft.take() else {
-            return Reply::OutOfOrder { missing: Missing::Draft };
+            return Reply::OutOfOrder {
+                missing: Missing::Draft,
+            };
         };
         match draft.check() {
             Ok(plan) => {
@@ -74,11 +87,15 @@ impl Session {
         ensures { λ r. ⌜ r ≡ certificate-reply (now (self .entry) .plan) flow ⌝ }
     {
         let Some(plan) = &self.plan else {
-            return Reply::OutOfOrder { missing: Missing::CheckedPlan };
+            return Reply::OutOfOrder {
+                missing: Missing::CheckedPlan,
+            };
         };
         match plan.certificate(flow as usize) {
             Ok((least, greatest)) => Reply::Certificate { least, greatest },
-            Err(refusal) => Reply::Refused { number: refusal.number() },
+            Err(refusal) => Reply::Refused {
+                number: refusal.number(),
+            },
         }
     }
 
@@ -86,7 +103,9 @@ impl Session {
         ensures { λ r. ⌜ Gates-of (now (self .entry) .plan) port r ⌝ }
     {
         let Some(plan) = &self.plan else {
-            return Ok(Reply::OutOfOrder { missing: Missing::CheckedPlan });
+            return Ok(Reply::OutOfOrder {
+                missing: Missing::CheckedPlan,
+            });
         };
         match GateList::of_port(heap, plan, port as usize) {
             Ok(list) => Ok(Reply::Gates { list }),
@@ -102,10 +121,29 @@ impl Session {
         ensures { λ r. ⌜ Performs (now (self .entry)) (asks call) r (now (self .exit)) ⌝ }
     {
         match call {
-            Call::Open { cycle, error, extension, delays } => self.open(heap, cycle, error, extension, delays.as_slice()),
-            Call::Add { release, octets, deadline, route, offsets } => {
+            Call::Open {
+                cycle,
+                error,
+                extension,
+                delays,
+            } => self.open(heap, cycle, error, extension, delays.as_slice()),
+            Call::Add {
+                release,
+                octets,
+                deadline,
+                route,
+                offsets,
+            } => {
                 let route = route.as_slice();
-                Ok(self.add(FlowRequest { release, octets, deadline, route }, offsets.as_slice()))
+                Ok(self.add(
+                    FlowRequest {
+                        release,
+                        octets,
+                        deadline,
+                        route,
+                    },
+                    offsets.as_slice(),
+                ))
             }
             Call::Check => Ok(self.check()),
             Call::Certificate { flow } => Ok(self.certificate(flow)),

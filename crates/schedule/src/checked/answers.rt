@@ -1,6 +1,8 @@
 // What a checked plan answers.
 ghost use mathlib.Core.Path.{_≡_};
-ghost use Rattle.schedule.specs.Checks.{checked-plan, Certifies, Reaches};
+ghost use Prim.Native.Nat.{_<_};
+ghost use Rattle.schedule.specs.Plan.{Has-hop, flow-count};
+ghost use Rattle.schedule.specs.Checks.{checked-plan, Transits, Certifies, Reach, Reaches};
 use super::CheckedPlan;
 use crate::refusal::CertificateRefusal;
 use crate::tables::Flow;
@@ -46,17 +48,34 @@ impl CheckedPlan {
         self.draft.windows()
     }
 
-    /// The least and the greatest transit of a flow.
+    // The least and the greatest transit of a flow that there is.
+    fn transits(&self, flow: usize) -> (u32, u32)
+        requires { ⌜ flow < flow-count (checked-plan (now self)) ⌝ }
+        ensures { λ r. ⌜ Transits (checked-plan (now (self .entry))) flow r ⌝ }
+    {
+        let Flow { release, hops, .. } = self.draft.flow(flow);
+        let earliest = self.draft.early(flow, hops) - self.error();
+        let latest = self.draft.late(flow, hops);
+        (earliest - release, latest - release)
+    }
+
+    // The earliest and the latest tick at which the frame can join the line of a hop that there is.
+    fn reach_of(&self, flow: usize, hop: usize) -> (u32, u32)
+        requires { ⌜ Has-hop (checked-plan (now self)) flow hop ⌝ }
+        ensures { λ r. ⌜ Reach (checked-plan (now (self .entry))) flow hop r ⌝ }
+    {
+        let earliest = self.draft.early(flow, hop) - self.error();
+        (earliest, self.draft.late(flow, hop))
+    }
+
+    /// The least and the greatest transit of a flow, from release to delivery.
     pub fn certificate(&self, flow: usize) -> Result<(u32, u32), CertificateRefusal>
         ensures { λ r. ⌜ Certifies (checked-plan (now (self .entry))) flow r ⌝ }
     {
         if flow >= self.draft.flow_count() {
             return Err(CertificateRefusal::AbsentFlow);
         }
-        let Flow { release, hops, .. } = self.draft.flow(flow);
-        let earliest = self.draft.early(flow, hops) - self.error();
-        let latest = self.draft.late(flow, hops);
-        Ok((earliest - release, latest - release))
+        Ok(self.transits(flow))
     }
 
     /// The earliest and the latest tick of the cycle at which a frame can join the line of a hop; none where there is no such hop.
@@ -69,9 +88,6 @@ impl CheckedPlan {
         if hop >= self.draft.flow(flow).hops {
             return None;
         }
-        Some((
-            self.draft.early(flow, hop) - self.error(),
-            self.draft.late(flow, hop),
-        ))
+        Some(self.reach_of(flow, hop))
     }
 }

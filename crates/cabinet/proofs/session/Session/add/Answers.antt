@@ -11,4 +11,4 @@ returns-in-Ok c =
     let s = c .args .self .now in
     let r = c .args .request in
     subst (λ (o : Option Draft). Adds-to o s (r .release) (r .octets) (r .deadline) (r .route .now) (c .args .offsets .now) (Added (c .in-Ok .flow)) (with-draft s (c .add .last .self)))
-      (sym (c .in-Some .is)) (inl (c .in-Ok .flow, c .add .last .self, c .in-Ok .ensures tt, refl, refl))
+    (sym (c .in-Some .is)) (inl (c .in-Ok .flow, c .add .last .self, c .in-Ok .ensures tt, refl, refl))

@@ -9,12 +9,12 @@ use Rattle.schedule.specs.Rules.{Flow-keeps}
 use Rattle.schedule.specs.Checks.{checked-plan}
 use Rattle.schedule.proofs.Props.{good-from}
 use Rattle.schedule.proofs.Chains.{late-past, early-past, delivered-in-time, late-early}
-use Rattle.schedule.proofs.checked.CheckedPlan.certificate.Needs.{After-flow-release}
-use Rattle.schedule.proofs.checked.CheckedPlan.certificate.Needs as need
+use Rattle.schedule.proofs.checked.CheckedPlan.transits.Needs.{After-flow-release}
+use Rattle.schedule.proofs.checked.CheckedPlan.transits.Needs as need
 
 module _ (c : need.After-flow-release) where
   present : c .args .flow < flow-count (checked-plan (c .args .self .now))
-  present = omega (arith, c .flow-count .ensures)
+  present = c .pre
 
   keeps : Flow-keeps (checked-plan (c .args .self .now)) (c .args .flow)
   keeps = good-from (checked-plan (c .args .self .now)) (c .args .self .now .good) (c .args .flow) present
@@ -54,9 +54,9 @@ returns c =
     let l = c .late-latest .ensures .is ∙ ap (late-at P f) hops in
     let past = early-past P f (keeps d) (hop-count P f) (omega arith) in
     let both = late-early P f (hop-count P f) (some-hops d) in
-    let met = delivered-in-time P f (keeps d) (some-hops d) in (
-      search needs,
-      (λ i. (e i - c .error .ensures i - release i, l i - release i)),
-      omega (arith, c .error .ensures),
-      omega arith,
-    )
+    let met = delivered-in-time P f (keeps d) (some-hops d) in
+    record {
+      is = (λ i. (e i - c .error .ensures i - release i, l i - release i));
+      spread = omega (arith, c .error .ensures);
+      in-time = omega arith;
+    }

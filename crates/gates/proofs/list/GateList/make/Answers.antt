@@ -11,8 +11,8 @@ use Rattle.gates.specs.Lists.{Gate-list}
 use Rattle.gates.specs.Scan.{stretch-from}
 use Rattle.gates.proofs.Edges.{until-gt}
 use Rattle.gates.proofs.Running.{Running, running-start, running-on, running-push, finished}
-use Rattle.gates.proofs.list.GateList.of_port.Needs.{After-stretch-from-stretch-in-loop-stretch, After-push-reserved-2}
-use Rattle.gates.proofs.list.GateList.of_port.Needs as need
+use Rattle.gates.proofs.list.GateList.make.Needs.{After-stretch-from-stretch-in-loop-stretch, After-push-reserved-2}
+use Rattle.gates.proofs.list.GateList.make.Needs as need
 
 pub loop-stretch-holds : need.loop-stretch-holds
 loop-stretch-holds c = (running-start (c .args .plan .now) (c .args .port) _ (c .in-Continue-entries .ensures tt .made .0) _ (c .stretch-from-stretch .ensures), c .in-Continue-entries .ensures tt .made .1 .1)
@@ -58,4 +58,4 @@ ghost-result c =
     (made .lasting, (made .whole ∙ sym (c .cycle .ensures), tt))
 
 pub returns : need.returns
-returns c = (search needs, c .cycle .ensures, whole-list (need.at·returns c .After-push-reserved-2))
+returns c = (c .cycle .ensures, whole-list (need.at·returns c .After-push-reserved-2))
