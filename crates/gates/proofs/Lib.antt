@@ -4,3 +4,4 @@ pub mod Counts
 pub mod Entries
 pub mod Running
 pub mod Example
+pub mod Unique

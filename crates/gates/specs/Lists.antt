@@ -38,3 +38,7 @@ pub record Gate-list (P : Plan) (p : ℕ) (es : List GateEntry) : Type 0 where
   pub changing : Changing es
   pub whole : total es ≡ P .cycle
   pub few : length es ≤ 49
+
+-- a port of a plan has one gate list and no other
+abbrev pub One-gate-list : Type 0
+One-gate-list = (P : Plan) (p : ℕ) (es fs : List GateEntry) → Gate-list P p es → Gate-list P p fs → es ≡ fs
