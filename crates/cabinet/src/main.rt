@@ -1,12 +1,10 @@
 // Reads a scenario from standard input, does it call by call, and prints a reply for each.
-mod reply;
-mod session;
 mod stop;
 
-use reply::ReplyDisplay;
+use calls::reply::ReplyDisplay;
+use calls::session::Session;
 use scenario::call::Problem;
 use scenario::line::parse_line;
-use session::Session;
 use std::io::BufRead;
 use std::io::BufReader;
 use stop::Stop;
@@ -27,7 +25,7 @@ fn answer(rt: &LibcRuntime, session: &mut Session, line: u64, text: &str) -> Res
     }
 }
 
-fn run(rt: &LibcRuntime) -> Result<(), Stop> {
+fn answer_all(rt: &LibcRuntime) -> Result<(), Stop> {
     let mut session = Session::new();
     let mut number: u64 = 0;
     for line in BufReader::new(rt.stdin()).lines(rt.alloc()) {
@@ -38,7 +36,7 @@ fn run(rt: &LibcRuntime) -> Result<(), Stop> {
 }
 
 fn main(rt: LibcRuntime) -> Result<(), Stop> {
-    let done = run(&rt);
+    let done = answer_all(&rt);
     if let Err(stop) = &done {
         let _ = eprintln!(rt, "error: {stop}");
     }

@@ -3,10 +3,10 @@ use mathlib.Core.Logic.{inl, inr}
 use Rattle.std.specs.declared.option.Option.{Option}
 use Rattle.std.specs.declared.option.Option.the-variants.{Some, None}
 use Rattle.schedule.specs.declared.draft.Draft.{Draft}
-use Rattle.cabinet.specs.declared.session.Session.{Session}
-use Rattle.cabinet.specs.declared.reply.Reply.the-variants.{Checked, Faulty}
-use Rattle.cabinet.specs.Sessions.{Checks-of, with-draft}
-use Rattle.cabinet.proofs.session.Session.check.Needs as need
+use Rattle.calls.specs.declared.session.Session.{Session}
+use Rattle.calls.specs.declared.reply.Reply.the-variants.{Checked, Faulty}
+use Rattle.calls.specs.Sessions.{Checks-of, with-draft}
+use Rattle.calls.proofs.session.Session.check.Needs as need
 
 pub returns-in-Ok : need.returns-in-Ok
 returns-in-Ok c =

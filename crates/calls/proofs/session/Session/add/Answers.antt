@@ -2,9 +2,9 @@ use mathlib.Core.Path.{_≡_, refl, sym, ap, subst}
 use mathlib.Core.Logic.{inl}
 use Rattle.std.specs.declared.option.Option.{Option}
 use Rattle.schedule.specs.declared.draft.Draft.{Draft}
-use Rattle.cabinet.specs.declared.reply.Reply.the-variants.{Added}
-use Rattle.cabinet.specs.Sessions.{Adds-to, with-draft}
-use Rattle.cabinet.proofs.session.Session.add.Needs as need
+use Rattle.calls.specs.declared.reply.Reply.the-variants.{Added}
+use Rattle.calls.specs.Sessions.{Adds-to, with-draft}
+use Rattle.calls.proofs.session.Session.add.Needs as need
 
 pub returns-in-Ok : need.returns-in-Ok
 returns-in-Ok c =

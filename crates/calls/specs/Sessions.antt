@@ -22,10 +22,10 @@ use Rattle.schedule.specs.Checks.{checked-plan, Checks}
 use Rattle.gates.specs.declared.list.GateList.{GateList}
 use Rattle.gates.specs.Makes.{gates-refused, Makes}
 use Rattle.scenario.specs.Lines.{Asked, opens, adds, checks, certifies, shows-gates}
-use Rattle.cabinet.specs.declared.session.Session.{Session}
-use Rattle.cabinet.specs.declared.reply.Missing.the-variants as Missing
-use Rattle.cabinet.specs.declared.reply.Reply.{Reply}
-use Rattle.cabinet.specs.declared.reply.Reply.the-variants.{Opened, Added, Checked, Certificate, Gates, Refused, Faulty, OutOfOrder}
+use Rattle.calls.specs.declared.session.Session.{Session}
+use Rattle.calls.specs.declared.reply.Missing.the-variants as Missing
+use Rattle.calls.specs.declared.reply.Reply.{Reply}
+use Rattle.calls.specs.declared.reply.Reply.the-variants.{Opened, Added, Checked, Certificate, Gates, Refused, Faulty, OutOfOrder}
 
 -- nothing is in hand
 abbrev pub fresh : Session

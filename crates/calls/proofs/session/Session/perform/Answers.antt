@@ -3,8 +3,8 @@ use mathlib.Core.List.{List}
 use Prim.Native.Nat.{ℕ}
 use Rattle.scenario.specs.declared.call.Call.{Call}
 use Rattle.scenario.specs.Lines.{asks}
-use Rattle.cabinet.specs.Sessions.{Performs, Opens-session}
-use Rattle.cabinet.proofs.session.Session.perform.Needs as need
+use Rattle.calls.specs.Sessions.{Performs, Opens-session}
+use Rattle.calls.proofs.session.Session.perform.Needs as need
 
 pub returns-in-Open : need.returns-in-Open
 returns-in-Open c =

@@ -1,7 +1,7 @@
 // The calls of a scenario, one at a time.
 ghost use mathlib.Core.Path.{_≡_};
 ghost use Rattle.scenario.specs.Lines.{asks};
-ghost use Rattle.cabinet.specs.Sessions.{fresh, Opens-session, Adds-to, Checks-of, certificate-reply, Gates-of, Performs};
+ghost use Rattle.calls.specs.Sessions.{fresh, Opens-session, Adds-to, Checks-of, certificate-reply, Gates-of, Performs};
 use super::Session;
 use crate::reply::Missing;
 use crate::reply::Reply;

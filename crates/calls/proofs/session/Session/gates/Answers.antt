@@ -3,9 +3,9 @@ use mathlib.Core.Logic.{inl}
 use Rattle.std.specs.declared.option.Option.{Option}
 use Rattle.std.specs.declared.result.Result.the-variants.{Ok}
 use Rattle.schedule.specs.declared.checked.CheckedPlan.{CheckedPlan}
-use Rattle.cabinet.specs.declared.reply.Reply.the-variants.{Gates}
-use Rattle.cabinet.specs.Sessions.{Gates-of}
-use Rattle.cabinet.proofs.session.Session.gates.Needs as need
+use Rattle.calls.specs.declared.reply.Reply.the-variants.{Gates}
+use Rattle.calls.specs.Sessions.{Gates-of}
+use Rattle.calls.proofs.session.Session.gates.Needs as need
 
 pub returns-in-Ok : need.returns-in-Ok
 returns-in-Ok c =
