@@ -7,6 +7,7 @@ use crate::tables::Port;
 use crate::tables::Window;
 
 pub mod add;
+pub mod hops;
 pub mod open;
 pub mod rules;
 
