@@ -44,12 +44,13 @@ same-list (e ∷ es) (f ∷ fs) le lf ce cf t alike =
     let o : e .octet ≡ f .octet = sym (yields-head e es 0 he) ∙ alike 0 (omega arith) ∙ yields-head f fs 0 hf in
     let back : Alike (f ∷ fs) (e ∷ es) = λ x h. sym (alike x (omega arith)) in
     let n : e .ticks ≡ f .ticks = elim (cases-order (e .ticks) (f .ticks)) [
-        inl s ↦ s
-      | inr s ↦ elim s [ inl lt ↦ absurd (not-shorter e es f fs le ce t alike o lt) | inr lt ↦ absurd (not-shorter f fs e es lf cf (sym t) back (sym o) lt) ] ] in
+      | inl s ↦ s
+      | inr s ↦ elim s [ inl lt ↦ absurd (not-shorter e es f fs le ce t alike o lt) | inr lt ↦ absurd (not-shorter f fs e es lf cf (sym t) back (sym o) lt) ]
+    ] in
     let rest : Alike es fs = λ x h.
-        let a : x + e .ticks - e .ticks ≡ x = omega arith in
-        let b : x + e .ticks - f .ticks ≡ x = omega arith in
-        sym (yields-tail e es (x + e .ticks) (omega arith) ∙ ap (yields es) a) ∙ alike (x + e .ticks) (omega arith) ∙ yields-tail f fs (x + e .ticks) (omega arith) ∙ ap (yields fs) b in
+    let a : x + e .ticks - e .ticks ≡ x = omega arith in
+    let b : x + e .ticks - f .ticks ≡ x = omega arith in
+    sym (yields-tail e es (x + e .ticks) (omega arith) ∙ ap (yields es) a) ∙ alike (x + e .ticks) (omega arith) ∙ yields-tail f fs (x + e .ticks) (omega arith) ∙ ap (yields fs) b in
     let tail = same-list es fs (lasting-tail e es le) (lasting-tail f fs lf) (changing-tail e es ce) (changing-tail f fs cf) (omega arith) rest in
     λ i. record { octet = o i; ticks = n i } ∷ tail i
 
