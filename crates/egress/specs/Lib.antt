@@ -1,0 +1,9 @@
+pub mod Waiting
+pub mod Lines
+pub mod Laws
+pub mod Mask
+pub mod Credit
+pub mod Either
+pub mod Times
+pub mod Settings
+pub mod Figures
