@@ -15,6 +15,7 @@ pub enum Missing {
 #[derive(Drop)]
 pub enum Reply {
     Opened,
+    Placed { flow: usize, offsets: Vec<u32> },
     Added { flow: usize },
     Checked,
     Certificate { least: u32, greatest: u32 },
@@ -37,6 +38,7 @@ pub impl fmt::Display for Reply as ReplyDisplay {
     fn fmt<W: fmt::Write>(&self, f: &mut fmt::Formatter<W>) -> fmt::Result {
         match self {
             Reply::Opened => f.write_str("opened"),
+            Reply::Placed { flow, offsets } => write_placed(*flow, offsets.as_slice(), f),
             Reply::Added { flow } => write!(f, "added {flow}"),
             Reply::Checked => f.write_str("checked"),
             Reply::Certificate { least, greatest } => write!(f, "certificate {least} {greatest}"),
@@ -46,6 +48,18 @@ pub impl fmt::Display for Reply as ReplyDisplay {
             Reply::OutOfOrder { missing } => write!(f, "out of order: {missing}"),
         }
     }
+}
+
+fn write_placed<W: fmt::Write>(
+    flow: usize,
+    offsets: &[u32],
+    f: &mut fmt::Formatter<W>,
+) -> fmt::Result {
+    write!(f, "placed {flow} offsets")?;
+    for offset in offsets {
+        write!(f, " {offset}")?;
+    }
+    Ok(())
 }
 
 fn write_gates<W: fmt::Write>(list: &GateList, f: &mut fmt::Formatter<W>) -> fmt::Result {

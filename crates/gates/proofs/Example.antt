@@ -14,6 +14,7 @@ use Rattle.gates.specs.Octets.{octet-at}
 use Rattle.gates.specs.Scan.{stretch-from}
 use Rattle.gates.specs.Lists.{no-entry, yields, Lasting, Changing, Gate-list}
 use Rattle.gates.specs.Figures.{one-flow, two-flows, list-of-one, Figures}
+use Rattle.gates.proofs.Placements.{first-placed, second-placed, sooner-refused}
 use Rattle.gates.proofs.Meets.{stretch-octet}
 use Rattle.gates.proofs.Edges.{octet-stays}
 use Rattle.gates.proofs.Entries.{yields-head, yields-tail}
@@ -103,4 +104,7 @@ figures = record {
   first-list = record { yielding = yields-right; lasting = lasting-right; changing = changing-right; whole = refl; few = lit≤ tt };
   second-good = two-good;
   second-certificate = refl;
+  first-placed = first-placed (one-good 0 (lit< tt));
+  second-placed = second-placed second-flow;
+  sooner-refused = sooner-refused;
 }

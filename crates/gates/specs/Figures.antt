@@ -1,10 +1,11 @@
--- A worked example: two flows over two ports, with their certificates and a gate list.
+-- A worked example: two flows over two ports, placed, with their certificates and a gate list.
 use mathlib.Core.Path.{_≡_}
 use mathlib.Core.List.{List, [], _∷_}
 use Prim.Native.Nat.{ℕ}
 use Rattle.schedule.specs.Plan.{Plan, certificate-of}
 use Rattle.schedule.specs.Rules.{Good}
 use Rattle.schedule.specs.Drafts.{empty-plan, with-flow}
+use Rattle.schedule.specs.Placing.{Least-placement, None-fit}
 use Rattle.gates.specs.declared.entry.GateEntry.{GateEntry}
 use Rattle.gates.specs.Lists.{Gate-list}
 
@@ -31,3 +32,6 @@ pub record Figures : Type 0 where
   pub first-list : Gate-list one-flow 1 list-of-one
   pub second-good : Good two-flows
   pub second-certificate : certificate-of two-flows 1 ≡ (324, 344)
+  pub first-placed : Least-placement two-ports 0 100 400 (0 ∷ 1 ∷ []) (20 ∷ 210 ∷ [])
+  pub second-placed : Least-placement one-flow 170 64 400 (0 ∷ 1 ∷ []) (236 ∷ 390 ∷ [])
+  pub sooner-refused : None-fit one-flow 169 64 400 (0 ∷ 1 ∷ [])

@@ -22,7 +22,7 @@ use Rattle.std.proofs.shelf.Tests.{and-parts, not-true, or-parts, cond-true, co
 use Rattle.std.proofs.shelf.Ways.{tells}
 use Rattle.scenario.specs.declared.call.Problem.{Problem}
 use Rattle.scenario.specs.Texts.{uncommented, parts, ended, words-after, words-of, digit, digits, value-after, value-of, fitting, number-of}
-use Rattle.scenario.specs.Lines.{Word, Asked, opens, adds, checks, certifies, shows-gates, _then_, keyword, numeral, field, numerals, numerals-until, open-form, add-form, words-form, line-form}
+use Rattle.scenario.specs.Lines.{Word, Asked, opens, places, adds, checks, certifies, shows-gates, _then_, keyword, numeral, field, numerals, numerals-until, open-form, place-form, add-form, words-form, line-form}
 use Rattle.scenario.specs.Written.{spelled, spaced, numbers-in, Reads-back}
 use Rattle.scenario.proofs.Steps.{fits}
 use Rattle.scenario.proofs.Lists.{in-front-until}
@@ -122,6 +122,8 @@ until-back k (n ∷ ns) ws no-number h =
 words-back : (a : Asked) → All (λ n. n < 2 ^ 64) (numbers-in a) → words-form (spelled a) ≡ Ok (Some a)
 words-back (opens c e x ds) h =
     simp (number-back c (h .0), number-back e (h .1 .0), number-back x (h .1 .1 .0), numerals-back ds (h .1 .1 .1))
+words-back (places r n l ps) h =
+    simp (number-back r (h .0), number-back n (h .1 .0), number-back l (h .1 .1 .0), numerals-back ps (h .1 .1 .1))
 words-back (adds r n l ps os) h =
     let parts = all-parts ps os (h .1 .1 .1) in
     simp (number-back r (h .0), number-back n (h .1 .0), number-back l (h .1 .1 .0), until-back (codes "offsets") ps (map decimal os) refl (parts .0), numerals-back os (parts .1))
@@ -142,6 +144,8 @@ proper-list (n ∷ ns) h = (number-proper n (h .0), proper-list ns (h .1))
 words-proper : (a : Asked) → All (λ n. n < 2 ^ 64) (numbers-in a) → All-proper (spelled a)
 words-proper (opens c e x ds) h =
     (refl, (refl, (number-proper c (h .0), (refl, (number-proper e (h .1 .0), (refl, (number-proper x (h .1 .1 .0), (refl, proper-list ds (h .1 .1 .1)))))))))
+words-proper (places r n l ps) h =
+    (refl, (refl, (number-proper r (h .0), (refl, (number-proper n (h .1 .0), (refl, (number-proper l (h .1 .1 .0), (refl, proper-list ps (h .1 .1 .1)))))))))
 words-proper (adds r n l ps os) h =
     let parts = all-parts ps os (h .1 .1 .1) in
     (refl, (refl, (number-proper r (h .0), (refl, (number-proper n (h .1 .0), (refl, (number-proper l (h .1 .1 .0), (refl, proper-numbers ps (codes "offsets" ∷ map decimal os) (parts .0) (refl, proper-list os (parts .1))))))))))

@@ -14,7 +14,7 @@ use Rattle.std.specs.declared.option.Option.the-variants.{Some, None}
 use Rattle.std.specs.declared.result.Result.{Result}
 use Rattle.std.specs.declared.result.Result.the-variants.{Ok, Err}
 use Rattle.scenario.specs.declared.call.Call.{Call}
-use Rattle.scenario.specs.declared.call.Call.the-variants.{Open, Add, Check, Certificate, Gates}
+use Rattle.scenario.specs.declared.call.Call.the-variants.{Open, Place, Add, Check, Certificate, Gates}
 use Rattle.scenario.specs.declared.line.Name.{Name}
 use Rattle.scenario.specs.declared.line.Name.the-variants as Name
 use Rattle.scenario.specs.declared.call.Problem.{Problem}
@@ -29,6 +29,7 @@ Word = List ℕ
 -- what is asked for: a call, with lists of numbers
 pub data Asked : Type 0 where
   opens : (cycle error extension : ℕ) (delays : List ℕ) → Asked
+  places : (release octets deadline : ℕ) (route : List ℕ) → Asked
   adds : (release octets deadline : ℕ) (route offsets : List ℕ) → Asked
   checks : Asked
   certifies : (flow : ℕ) → Asked
@@ -37,6 +38,7 @@ pub data Asked : Type 0 where
 -- what a call asks for
 abbrev pub asks : Call → Asked
 asks (Open c e x ds) = opens c e x (vec-items ds)
+asks (Place r n l ps) = places r n l (vec-items ps)
 asks (Add r n l ps os) = adds r n l (vec-items ps) (vec-items os)
 asks Check = checks
 asks (Certificate f) = certifies f
@@ -86,6 +88,16 @@ open-form ws =
     numerals rest then λ ds.
     Ok (opens (c .0) (e .0) (x .0) ds)
 
+-- release R octets N deadline L route P ..
+abbrev pub place-form : List Word → Result Asked Problem
+place-form ws =
+    field (codes "release") ws then λ r.
+    field (codes "octets") (r .1) then λ n.
+    field (codes "deadline") (n .1) then λ l.
+    keyword (codes "route") (l .1) then λ rest.
+    numerals rest then λ ps.
+    Ok (places (r .0) (n .0) (l .0) ps)
+
 -- release R octets N deadline L route P .. offsets O ..
 abbrev pub add-form : List Word → Result Asked Problem
 add-form ws =
@@ -108,15 +120,17 @@ number-form ws =
 abbrev pub name-of : Word → Option Name
 name-of w =
     cond (sameBytes w (codes "open")) (Some Name.Open)
+    (cond (sameBytes w (codes "place")) (Some Name.Place)
     (cond (sameBytes w (codes "add")) (Some Name.Add)
     (cond (sameBytes w (codes "check")) (Some Name.Check)
     (cond (sameBytes w (codes "certificate")) (Some Name.Certificate)
     (cond (sameBytes w (codes "gates")) (Some Name.Gates)
-    None))))
+    None)))))
 
 -- the words behind a call's name
 abbrev pub call-form : Name → List Word → Result Asked Problem
 call-form Name.Open ws = open-form ws
+call-form Name.Place ws = place-form ws
 call-form Name.Add ws = add-form ws
 call-form Name.Check ws = ends ws then λ _. Ok checks
 call-form Name.Certificate ws = number-form ws then λ flow. Ok (certifies flow)
@@ -137,6 +151,7 @@ line-form bs = words-form (words-of (uncommented bs))
 -- the calls that have lists of numbers
 abbrev pub has-lists : Name → Bool
 has-lists Name.Open = true
+has-lists Name.Place = true
 has-lists Name.Add = true
 has-lists Name.Check = false
 has-lists Name.Certificate = false

@@ -7,11 +7,12 @@ use Rattle.std.specs.Written.{decimal}
 use Rattle.std.specs.shelf.Lists.{All}
 use Rattle.std.specs.declared.option.Option.the-variants.{Some}
 use Rattle.std.specs.declared.result.Result.the-variants.{Ok}
-use Rattle.scenario.specs.Lines.{Word, Asked, opens, adds, checks, certifies, shows-gates, line-form}
+use Rattle.scenario.specs.Lines.{Word, Asked, opens, places, adds, checks, certifies, shows-gates, line-form}
 
 -- the words of the line; `decimal n` is what a program prints of the number n
 abbrev pub spelled : Asked → List Word
 spelled (opens c e x ds) = codes "open" ∷ codes "cycle" ∷ decimal c ∷ codes "error" ∷ decimal e ∷ codes "extension" ∷ decimal x ∷ codes "delays" ∷ map decimal ds
+spelled (places r n l ps) = codes "place" ∷ codes "release" ∷ decimal r ∷ codes "octets" ∷ decimal n ∷ codes "deadline" ∷ decimal l ∷ codes "route" ∷ map decimal ps
 spelled (adds r n l ps os) = codes "add" ∷ codes "release" ∷ decimal r ∷ codes "octets" ∷ decimal n ∷ codes "deadline" ∷ decimal l ∷ codes "route" ∷ (map decimal ps ++ codes "offsets" ∷ map decimal os)
 spelled checks = codes "check" ∷ []
 spelled (certifies f) = codes "certificate" ∷ decimal f ∷ []
@@ -20,6 +21,7 @@ spelled (shows-gates p) = codes "gates" ∷ decimal p ∷ []
 -- the numbers of what is asked for
 abbrev pub numbers-in : Asked → List ℕ
 numbers-in (opens c e x ds) = c ∷ e ∷ x ∷ ds
+numbers-in (places r n l ps) = r ∷ n ∷ l ∷ ps
 numbers-in (adds r n l ps os) = r ∷ n ∷ l ∷ (ps ++ os)
 numbers-in checks = []
 numbers-in (certifies f) = f ∷ []

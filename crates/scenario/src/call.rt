@@ -16,6 +16,12 @@ pub enum Call {
         extension: u64,
         delays: Vec<u64>,
     },
+    Place {
+        release: u64,
+        octets: u64,
+        deadline: u64,
+        route: Vec<u64>,
+    },
     Add {
         release: u64,
         octets: u64,

@@ -5,7 +5,7 @@ ghost use Rattle.std.specs.Options.{mapped};
 ghost use Rattle.std.specs.Results.{Cases};
 ghost use Rattle.std.specs.declared.result.Result.the-variants.{Ok, Err};
 ghost use Rattle.scenario.specs.Texts.{left};
-ghost use Rattle.scenario.specs.Lines.{asks, open-form, add-form, number-form, name-of, call-form, line-form, has-lists, line-has-lists, Fails};
+ghost use Rattle.scenario.specs.Lines.{asks, open-form, place-form, add-form, number-form, name-of, call-form, line-form, has-lists, line-has-lists, Fails};
 ghost use Rattle.scenario.specs.Examples.{Examples};
 ghost use Rattle.scenario.specs.Written.{Reads-back};
 use crate::call::Call;
@@ -18,6 +18,7 @@ use std::alloc::Global;
 #[derive(Clone, Copy)]
 enum Name {
     Open,
+    Place,
     Add,
     Check,
     Certificate,
@@ -29,6 +30,8 @@ fn call_name(word: &[u8]) -> Option<Name>
 {
     if is_word(word, "open") {
         Some(Name::Open)
+    } else if is_word(word, "place") {
+        Some(Name::Place)
     } else if is_word(word, "add") {
         Some(Name::Add)
     } else if is_word(word, "check") {
@@ -55,6 +58,22 @@ fn read_open(heap: Global, words: &mut Words) -> Result<Call, Problem>
         error,
         extension,
         delays,
+    })
+}
+
+fn read_place(heap: Global, words: &mut Words) -> Result<Call, Problem>
+    ensures { λ r. ⌜ Cases r (λ a. place-form (left (now (words .entry))) ≡ Ok (asks a)) (λ p. Fails p (place-form (left (now (words .entry)))) true) ⌝ }
+{
+    let release = words.number_after("release")?;
+    let octets = words.number_after("octets")?;
+    let deadline = words.number_after("deadline")?;
+    words.expect("route")?;
+    let route = words.numbers(heap)?;
+    Ok(Call::Place {
+        release,
+        octets,
+        deadline,
+        route,
     })
 }
 
@@ -89,6 +108,7 @@ fn read_call(heap: Global, name: Name, words: &mut Words) -> Result<Call, Proble
 {
     match name {
         Name::Open => read_open(heap, words),
+        Name::Place => read_place(heap, words),
         Name::Add => read_add(heap, words),
         Name::Check => {
             words.end()?;

@@ -5,3 +5,9 @@ pub mod Adding
 pub mod Props
 pub mod Chains
 pub mod Routes
+pub mod Raising
+pub mod Moving
+pub mod Rising
+pub mod Placed
+pub mod Lowest
+pub mod Minimum

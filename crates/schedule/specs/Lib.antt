@@ -4,4 +4,6 @@ pub mod Rules
 pub mod Limits
 pub mod Held
 pub mod Drafts
+pub mod Placing
+pub mod Raising
 pub mod Checks

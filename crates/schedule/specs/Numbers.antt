@@ -5,7 +5,7 @@ use Rattle.std.specs.declared.option.Option.the-variants.{Some, None}
 use Rattle.schedule.specs.declared.refusal.OpenRefusal.{OpenRefusal}
 use Rattle.schedule.specs.declared.refusal.OpenRefusal.the-variants.{TimingBeyondLimits, PortsBeyondLimits, OutOfMemory}
 use Rattle.schedule.specs.declared.refusal.FlowRefusal.{FlowRefusal}
-use Rattle.schedule.specs.declared.refusal.FlowRefusal.the-variants.{DraftFull, FlowBeyondLimits, BadRoute, BadOffsets}
+use Rattle.schedule.specs.declared.refusal.FlowRefusal.the-variants.{DraftFull, FlowBeyondLimits, BadRoute, NoOffsets, BadOffsets}
 use Rattle.schedule.specs.declared.refusal.CertificateRefusal.{CertificateRefusal}
 use Rattle.schedule.specs.declared.refusal.CertificateRefusal.the-variants.{AbsentFlow}
 use Rattle.schedule.specs.declared.refusal.Fault.{Fault}
@@ -22,6 +22,7 @@ abbrev pub flow-number : FlowRefusal → ℕ
 flow-number DraftFull = 1
 flow-number FlowBeyondLimits = 2
 flow-number BadRoute = 3
+flow-number NoOffsets = 4
 flow-number BadOffsets = 5
 
 -- the number with which a certificate is refused

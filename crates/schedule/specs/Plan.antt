@@ -1,7 +1,7 @@
 -- What a plan holds, and how its parts are read. Numbers of ports, flows and hops count from 0.
 use mathlib.Core.List.{List}
 use Prim.Native.Nat.{ℕ, suc, zero, _+_, _-_, _*_, _≤_, _<_}
-use lib.ListN.{length, getD}
+use lib.ListN.{length, getD, take, drop}
 use Rattle.schedule.specs.declared.tables.Port.{Port}
 use Rattle.schedule.specs.declared.tables.Flow.{Flow}
 use Rattle.schedule.specs.declared.tables.Window.{Window}
@@ -42,6 +42,10 @@ flow-count P = length (P .flows)
 -- how many hops flow f has
 abbrev pub hop-count : Plan → ℕ → ℕ
 hop-count P f = flow-at P f .hops
+
+-- the windows of flow f, hop by hop
+abbrev pub windows-of : Plan → ℕ → List Window
+windows-of P f = take (flow-at P f .hops) (drop (flow-at P f .first) (P .windows))
 
 -- there is a flow f, and it has a hop h
 abbrev pub Has-hop : Plan → ℕ → ℕ → Type 0

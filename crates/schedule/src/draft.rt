@@ -7,7 +7,10 @@ use crate::tables::Port;
 use crate::tables::Window;
 
 pub mod add;
+pub mod hops;
 pub mod open;
+pub mod place;
+mod raise;
 pub mod rules;
 
 /// A plan in the making: it may break the rules, never the limits.

@@ -18,6 +18,7 @@ pub enum FlowRefusal {
     DraftFull,
     FlowBeyondLimits,
     BadRoute,
+    NoOffsets,
     BadOffsets,
 }
 
@@ -67,6 +68,7 @@ impl FlowRefusal {
             FlowRefusal::DraftFull => 1,
             FlowRefusal::FlowBeyondLimits => 2,
             FlowRefusal::BadRoute => 3,
+            FlowRefusal::NoOffsets => 4,
             FlowRefusal::BadOffsets => 5,
         }
     }

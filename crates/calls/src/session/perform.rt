@@ -1,7 +1,11 @@
 // The calls of a scenario, one at a time.
 ghost use mathlib.Core.Path.{_≡_};
+ghost use mathlib.Core.List.{_++_, map};
+ghost use Prim.Native.Nat.{_+_, _≤_};
+ghost use lib.ListN.{length};
+ghost use Rattle.std.specs.Of.Vec.{vec-items, vec-len, vec-cap};
 ghost use Rattle.scenario.specs.Lines.{asks};
-ghost use Rattle.calls.specs.Sessions.{fresh, Opens-session, Adds-to, Checks-of, certificate-reply, Gates-of, Performs};
+ghost use Rattle.calls.specs.Sessions.{fresh, offset-in, Opens-session, Places-in, Adds-to, Checks-of, certificate-reply, Gates-of, Performs};
 use super::Session;
 use crate::reply::Missing;
 use crate::reply::Reply;
@@ -9,8 +13,20 @@ use gates::list::GateList;
 use scenario::call::Call;
 use schedule::draft::Draft;
 use schedule::draft::add::FlowRequest;
+use schedule::limits::MAX_HOPS;
+use schedule::tables::Window;
 use std::alloc::AllocError;
 use std::alloc::Global;
+
+// Writes the offset of each window.
+fn push_offsets(offsets: &mut Vec<u32>, windows: &[Window])
+    requires { ⌜ vec-len (now offsets) + length (now windows) ≤ vec-cap (now offsets) ⌝ }
+    ensures { λ _. ⌜ vec-items (now (offsets .exit)) ≡ vec-items (now (offsets .entry)) ++ map offset-in (now (windows .entry)) ⌝ }
+{
+    for window in windows {
+        offsets.push_reserved(window.offset);
+    }
+}
 
 impl Session {
     /// A session with nothing in hand.
@@ -43,6 +59,27 @@ impl Session {
                 Some(number) => Ok(Reply::Refused { number }),
                 None => Err(AllocError),
             },
+        }
+    }
+
+    // Memory for the reply is had before the flow is placed.
+    fn place(&mut self, heap: Global, request: FlowRequest<'_>) -> Result<Reply, AllocError>
+        ensures { λ r. ⌜ Places-in (now (self .entry) .draft) (now (self .entry)) (request .entry .release) (request .entry .octets) (request .entry .deadline) (now (request .entry .route)) r (now (self .exit)) ⌝ }
+    {
+        let Some(draft) = &mut self.draft else {
+            return Ok(Reply::OutOfOrder {
+                missing: Missing::Draft,
+            });
+        };
+        let mut offsets = Vec::with_capacity(heap, MAX_HOPS)?;
+        match draft.place(request) {
+            Ok(flow) => {
+                push_offsets(&mut offsets, draft.hops(flow));
+                Ok(Reply::Placed { flow, offsets })
+            }
+            Err(refusal) => Ok(Reply::Refused {
+                number: refusal.number(),
+            }),
         }
     }
 
@@ -127,6 +164,23 @@ impl Session {
                 extension,
                 delays,
             } => self.open(heap, cycle, error, extension, delays.as_slice()),
+            Call::Place {
+                release,
+                octets,
+                deadline,
+                route,
+            } => {
+                let route = route.as_slice();
+                self.place(
+                    heap,
+                    FlowRequest {
+                        release,
+                        octets,
+                        deadline,
+                        route,
+                    },
+                )
+            }
             Call::Add {
                 release,
                 octets,

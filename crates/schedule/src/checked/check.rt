@@ -14,7 +14,7 @@ use crate::refusal::Fault;
 
 impl Draft {
     // The first rule broken at a hop of a flow.
-    fn fault_in_flow(&self, flow: usize) -> Option<Fault>
+    pub(crate) fn fault_in_flow(&self, flow: usize) -> Option<Fault>
         requires { ⌜ flow < flow-count (plan-of (now self)) ⌝ }
         ensures { λ r. ⌜ BySome r (Flow-keeps (plan-of (now (self .entry))) flow) (First-in-flow (plan-of (now (self .entry))) flow) ⌝ }
     {

@@ -9,6 +9,7 @@ ghost use Rattle.schedule.specs.Numbers.{fault-place};
 ghost use Rattle.schedule.specs.Plan.{Has-hop, Has-reach, flow-count, flow-at, window-at, wire-of, end-at, crossed-at, late-at, early-at};
 ghost use Rattle.schedule.specs.Rules.{Guarded, Ends-in-cycle, Reached-in-time, Delivered-in-cycle, Meets-deadline, Apart, Apart-from, Stands-apart, Keeps-rules, Broken-there};
 ghost use Rattle.schedule.specs.Drafts.{plan-of};
+ghost use Rattle.schedule.specs.Raising.{Too-close};
 use super::Draft;
 use crate::limits::FRAME_OVERHEAD;
 use crate::refusal::Fault;
@@ -178,7 +179,7 @@ impl Draft {
     }
 
     // Whether two windows of one port stand apart.
-    fn is_apart(&self, flow: usize, hop: usize, other: usize, place: usize) -> bool
+    pub(crate) fn is_apart(&self, flow: usize, hop: usize, other: usize, place: usize) -> bool
         requires { ⌜ Has-hop (plan-of (now self)) flow hop ⌝ }
         requires { ⌜ Has-hop (plan-of (now self)) other place ⌝ }
         ensures { λ r. ⌜ Decides r (Apart (plan-of (now (self .entry))) flow hop other place) ⌝ }
@@ -194,33 +195,44 @@ impl Draft {
         false
     }
 
-    // Whether a window stands apart from those of another flow at its port.
-    fn is_apart_from_flow(&self, flow: usize, hop: usize, other: usize) -> bool
+    // The first window of another flow that is too close to a window.
+    fn close_in_flow(&self, flow: usize, hop: usize, other: usize) -> Option<usize>
         requires { ⌜ Has-hop (plan-of (now self)) flow hop ⌝ }
-        requires { ⌜ other < vec-len (now self .flows) ⌝ }
-        ensures { λ r. ⌜ Decides r (Apart-from (plan-of (now (self .entry))) flow hop other) ⌝ }
+        requires { ⌜ other < flow ⌝ }
+        ensures { λ r. ⌜ BySome r (Apart-from (plan-of (now (self .entry))) flow hop other) (Too-close (plan-of (now (self .entry))) flow hop other) ⌝ }
     {
         let port = self.window(flow, hop).port;
         for place in 0..self.flow(other).hops {
             if self.window(other, place).port == port {
                 if !self.is_apart(flow, hop, other, place) {
-                    return false;
+                    return Some(place);
                 }
             }
         }
-        true
+        None
+    }
+
+    // The first window of a lower flow that is too close, as its flow and hop.
+    pub(crate) fn close_window(&self, flow: usize, hop: usize) -> Option<(usize, usize)>
+        requires { ⌜ Has-hop (plan-of (now self)) flow hop ⌝ }
+        ensures { λ r. ⌜ BySome r (Stands-apart (plan-of (now (self .entry))) flow hop) (λ x. Too-close (plan-of (now (self .entry))) flow hop (x .0) (x .1)) ⌝ }
+    {
+        for other in 0..flow {
+            if let Some(place) = self.close_in_flow(flow, hop, other) {
+                return Some((other, place));
+            }
+        }
+        None
     }
 
     fn stands_apart(&self, flow: usize, hop: usize) -> bool
         requires { ⌜ Has-hop (plan-of (now self)) flow hop ⌝ }
         ensures { λ r. ⌜ Decides r (Stands-apart (plan-of (now (self .entry))) flow hop) ⌝ }
     {
-        for other in 0..flow {
-            if !self.is_apart_from_flow(flow, hop, other) {
-                return false;
-            }
+        match self.close_window(flow, hop) {
+            Some(_) => false,
+            None => true,
         }
-        true
     }
 
     // The first rule that a hop breaks.
