@@ -4,7 +4,7 @@ ghost use Rattle.gates.specs.Octets.{opens};
 use std::fmt;
 
 /// A gate octet and the ticks for which it lasts. Bit c is 1 where the gate of class c is open.
-#[derive(Clone, Copy, PartialEq, Debug)]
+#[derive(Clone, Copy, Debug)]
 pub struct GateEntry {
     pub octet: u8,
     pub ticks: u32,

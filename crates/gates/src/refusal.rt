@@ -5,7 +5,7 @@ ghost use Rattle.gates.specs.declared.refusal.GateRefusal.the-variants.{OutOfM
 use std::alloc::AllocError;
 
 /// Why a gate list was not made.
-#[derive(Clone, Copy, PartialEq, Debug)]
+#[derive(Clone, Copy, Debug)]
 pub enum GateRefusal {
     AbsentPort,
     OutOfMemory,

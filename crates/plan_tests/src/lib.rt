@@ -5,3 +5,5 @@ mod checks;
 mod gate_lists;
 #[cfg(test)]
 mod limits;
+#[cfg(test)]
+mod placing;

@@ -5,7 +5,7 @@ ghost use Rattle.schedule.specs.declared.refusal.OpenRefusal.the-variants.{Out
 use std::alloc::AllocError;
 
 /// Why a draft was not opened.
-#[derive(Clone, Copy, PartialEq, Debug)]
+#[derive(Clone, Copy, Debug)]
 pub enum OpenRefusal {
     TimingBeyondLimits,
     PortsBeyondLimits,
@@ -13,7 +13,7 @@ pub enum OpenRefusal {
 }
 
 /// Why a flow did not enter a draft.
-#[derive(Clone, Copy, PartialEq, Debug)]
+#[derive(Clone, Copy, Debug)]
 pub enum FlowRefusal {
     DraftFull,
     FlowBeyondLimits,
@@ -23,13 +23,13 @@ pub enum FlowRefusal {
 }
 
 /// Why a plan has no such certificate.
-#[derive(Clone, Copy, PartialEq, Debug)]
+#[derive(Clone, Copy, Debug)]
 pub enum CertificateRefusal {
     AbsentFlow,
 }
 
 /// The first rule that a draft breaks, with the flow and the hop.
-#[derive(Clone, Copy, PartialEq, Debug)]
+#[derive(Clone, Copy, Debug)]
 pub enum Fault {
     OffsetTooEarly { flow: usize, hop: usize },
     EndTooLate { flow: usize, hop: usize },

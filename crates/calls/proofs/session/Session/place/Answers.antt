@@ -22,9 +22,9 @@ returns-in-Ok c =
     let e = c .place .last .self in
     let v = c .push-offsets .last .offsets in
     let shown : vec-items v ≡ map offset-in (windows-of (plan-of e) (c .in-Ok .flow)) =
-      c .push-offsets .ensures ∙ ap (λ (l : List ℕ). l ++ map offset-in (c .hops .result .now)) (c .in-Continue-offsets .ensures tt .made .0) ∙ ap (map offset-in) (c .hops .ensures .is) in
+    c .push-offsets .ensures ∙ ap (λ (l : List ℕ). l ++ map offset-in (c .hops .result .now)) (c .in-Continue-offsets .ensures tt .made .0) ∙ ap (map offset-in) (c .hops .ensures .is) in
     let told : Places-in (Some (c .in-Some .draft)) s (q .release) (q .octets) (q .deadline) (q .route .now) (Ok (Placed (c .in-Ok .flow) v)) (with-draft s e) =
-      inl (c .in-Ok .flow, e, v, c .in-Ok .ensures tt, shown, refl, refl) in
+    inl (c .in-Ok .flow, e, v, c .in-Ok .ensures tt, shown, refl, refl) in
     subst (λ (o : Option Draft). Places-in o s (q .release) (q .octets) (q .deadline) (q .route .now) (Ok (Placed (c .in-Ok .flow) v)) (with-draft s e)) (sym (c .in-Some .is)) told
 
 pub returns-in-Err : need.returns-in-Err
@@ -33,5 +33,5 @@ returns-in-Err c =
     let q = c .args .request in
     let e = c .place .last .self in
     let told : Places-in (Some (c .in-Some .draft)) s (q .release) (q .octets) (q .deadline) (q .route .now) (Ok (Refused (c .number .result))) (with-draft s e) =
-      inr (inl (c .in-Err .refusal, e, c .in-Err .ensures tt, ap (λ n. Ok (Refused n)) (c .number .ensures), refl)) in
+    inr (inl (c .in-Err .refusal, e, c .in-Err .ensures tt, ap (λ n. Ok (Refused n)) (c .number .ensures), refl)) in
     subst (λ (o : Option Draft). Places-in o s (q .release) (q .octets) (q .deadline) (q .route .now) (Ok (Refused (c .number .result))) (with-draft s e)) (sym (c .in-Some .is)) told

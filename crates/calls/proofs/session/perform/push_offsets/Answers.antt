@@ -16,10 +16,11 @@ loop-window-again c =
     let i = c .loop-window .window-index in
     let was = vec-items (c .args .offsets .now) in
     let front = map offset-in (take i ws) in
-    let o = offset-in (getD ws i no-window) in
-    (c .push-reserved .ensures .items ∙ ap (λ l. l ++ o ∷ []) (c .loop-window .inv .0) ∙ append-assoc was front (o ∷ []) ∙ ap (λ l. was ++ l) (sym (map-more offset-in ws i no-window (omega arith))),
-     omega (arith, c .push-reserved .ensures .len),
-     c .push-reserved .ensures .capacity ∙ c .loop-window .inv .2)
+    let o = offset-in (getD ws i no-window) in (
+      c .push-reserved .ensures .items ∙ ap (λ l. l ++ o ∷ []) (c .loop-window .inv .0) ∙ append-assoc was front (o ∷ []) ∙ ap (λ l. was ++ l) (sym (map-more offset-in ws i no-window (omega arith))),
+      omega (arith, c .push-reserved .ensures .len),
+      c .push-reserved .ensures .capacity ∙ c .loop-window .inv .2,
+    )
 
 pub returns : need.returns
 returns c =
