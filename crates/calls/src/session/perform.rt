@@ -28,6 +28,17 @@ fn push_offsets(offsets: &mut Vec<u32>, windows: &[Window])
     }
 }
 
+fn requested(release: u64, octets: u64, deadline: u64, route: &[u64]) -> FlowRequest<'_>
+    ensures { λ r. ⌜ (r .release ≡ release) × (r .octets ≡ octets) × (r .deadline ≡ deadline) × (now (r .route) ≡ now (route .entry)) ⌝ }
+{
+    FlowRequest {
+        release,
+        octets,
+        deadline,
+        route,
+    }
+}
+
 impl Session {
     /// A session with nothing in hand.
     pub fn new() -> Session
@@ -169,18 +180,7 @@ impl Session {
                 octets,
                 deadline,
                 route,
-            } => {
-                let route = route.as_slice();
-                self.place(
-                    heap,
-                    FlowRequest {
-                        release,
-                        octets,
-                        deadline,
-                        route,
-                    },
-                )
-            }
+            } => self.place(heap, requested(release, octets, deadline, route.as_slice())),
             Call::Add {
                 release,
                 octets,
@@ -188,16 +188,8 @@ impl Session {
                 route,
                 offsets,
             } => {
-                let route = route.as_slice();
-                Ok(self.add(
-                    FlowRequest {
-                        release,
-                        octets,
-                        deadline,
-                        route,
-                    },
-                    offsets.as_slice(),
-                ))
+                let request = requested(release, octets, deadline, route.as_slice());
+                Ok(self.add(request, offsets.as_slice()))
             }
             Call::Check => Ok(self.check()),
             Call::Certificate { flow } => Ok(self.certificate(flow)),
