@@ -1,12 +1,10 @@
 -- The worked example: where its flows are placed.
-use mathlib.Core.Path.{_≡_, refl}
+use mathlib.Core.Path.{refl}
 use mathlib.Core.List.{List, [], _∷_}
 use mathlib.Core.Logic.{inl, inr}
-use Prim.Native.Nat.{ℕ, zero, suc, _+_, _*_, _≤_, _<_}
+use Prim.Native.Nat.{ℕ, _+_, _≤_}
 use native.Mathlib.Omega.{arith}
-use lib.Dec.{lit≤, lit<}
-use lib.ListN.{length}
-use Rattle.schedule.specs.Plan.{Plan}
+use lib.Dec.{lit<}
 use Rattle.schedule.specs.Drafts.{with-flow}
 use Rattle.schedule.specs.Rules.{Flow-keeps}
 use Rattle.schedule.specs.Placing.{Fits-beside, Before, Least-placement, None-fit}

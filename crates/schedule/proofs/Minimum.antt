@@ -2,18 +2,17 @@
 use mathlib.Core.Path.{_≡_, refl, sym, ap, _∙_, subst}
 use mathlib.Core.List.{List, [], _∷_, _++_}
 use mathlib.Core.Logic.{_⊎_, inl, inr}
-use Prim.Native.Nat.{ℕ, zero, suc, _+_, _*_, _≤_, _<_, min}
+use Prim.Native.Nat.{ℕ, zero, suc, _+_, _*_, _≤_, _<_}
 use native.Mathlib.Omega.{arith}
 use lib.ListN.{length, getD}
 use Rattle.std.proofs.shelf.Tests.{cases-lt}
 use Rattle.schedule.specs.declared.tables.Flow.{Flow}
 use Rattle.schedule.specs.declared.tables.Window.{Window}
-use Rattle.schedule.specs.declared.draft.Draft.{Draft}
 use Rattle.schedule.specs.Plan.{Plan, flow-count, flow-at, hop-count, port-at, offset-at, end-at, early-at}
-use Rattle.schedule.specs.Rules.{After, Apart, Keeps-rules, Flow-keeps}
+use Rattle.schedule.specs.Rules.{Apart, Keeps-rules, Flow-keeps}
 use Rattle.schedule.specs.Held.{Stretches-held}
-use Rattle.schedule.specs.Drafts.{plan-of, with-flow, windows-along}
-use Rattle.schedule.specs.Placing.{Fits-beside, minima, Minimum-fits}
+use Rattle.schedule.specs.Drafts.{with-flow, windows-along}
+use Rattle.schedule.specs.Placing.{Fits-beside, minima}
 use Rattle.schedule.specs.Raising.{retimed, Later, Behind}
 use Rattle.schedule.proofs.Raising.{port-same, late-later, old-offset, old-port, old-early, early-next}
 use Rattle.schedule.proofs.Placed.{new-flow, new-hops, all-behind, later-from, placed-offset}

@@ -1,9 +1,8 @@
 -- A window table with one offset raised: what it keeps, and how it stands among later ones.
 use mathlib.Core.Path.{_≡_, refl, sym, ap, _∙_, subst}
-use mathlib.Core.Bool.{true}
 use mathlib.Core.List.{List, [], _∷_, map}
 use mathlib.Core.Logic.{inl, inr}
-use Prim.Native.Nat.{ℕ, zero, suc, _+_, _-_, _*_, _≤_, _<_}
+use Prim.Native.Nat.{ℕ, zero, suc, _+_, _≤_, _<_}
 use native.Mathlib.Omega.{arith}
 use lib.ListN.{length, getD, take, drop, set}
 use Rattle.std.proofs.shelf.Lists.{length-set, getD-set-same, getD-set-other, set-getD, take-set-le, map-set, take-map, drop-map}
@@ -12,7 +11,7 @@ use Rattle.schedule.specs.declared.tables.Flow.{Flow}
 use Rattle.schedule.specs.declared.tables.Window.{Window}
 use Rattle.schedule.specs.Plan.{no-flow, no-window}
 use Rattle.schedule.specs.Limits.{ports-differ}
-use Rattle.schedule.specs.Held.{Tables-held, Flows-held, Stretches-held, Windows-held, Routes-held}
+use Rattle.schedule.specs.Held.{Stretches-held, Windows-held, Routes-held}
 use Rattle.schedule.specs.Raising.{Later, set-offset, rise-left, Tables-keep}
 use Rattle.schedule.proofs.Raising.{getD-map-all}
 
@@ -70,9 +69,6 @@ later-trans first hops xs ys zs p q = record {
   ports = q .ports ∙ p .ports;
   later = λ h lt. let a = p .later h lt in let b = q .later h lt in omega arith;
 }
-
-pub later-same : (first hops : ℕ) (xs : List Window) → Later first hops xs xs
-later-same first hops xs = record { alike = refl; ports = refl; later = λ h lt. omega arith }
 
 module _ (first hops : ℕ) (ws : List Window) (h to : ℕ) (lt : first + h < length ws) where
   offset-here : getD (set-offset ws (first + h) to) (first + h) no-window .offset ≡ to

@@ -3,7 +3,7 @@ use mathlib.Core.Path.{_≡_, refl, sym, ap, _∙_, subst}
 use mathlib.Core.Bool.{Bool, true, false}
 use mathlib.Core.List.{List, [], _∷_, _++_, map}
 use mathlib.Core.Logic.{inl, inr}
-use Prim.Native.Nat.{ℕ, zero, suc, _+_, _-_, _*_, _≤_, _<_}
+use Prim.Native.Nat.{ℕ, zero, suc, _+_, _-_, _≤_, _<_}
 use native.Mathlib.Omega.{arith}
 use lib.ListN.{length, getD, take, drop}
 use Rattle.std.proofs.shelf.Lists.{length-map, getD-append-left, getD-append-right, getD-append-add, take-at, drop-at, take-append-drop, drop-map, map-append}
@@ -16,7 +16,7 @@ use Rattle.schedule.specs.Held.{Stretches-held}
 use Rattle.schedule.specs.Drafts.{windows-along, with-flow}
 use Rattle.schedule.specs.Placing.{Fits-beside, Earlier, last-offset, Before, Least-placement, None-fit}
 use Rattle.schedule.specs.Raising.{retimed, cut-back, Later, Behind, Solves, Raises}
-use Rattle.schedule.proofs.Along.{along-length, along-at, along-ports}
+use Rattle.schedule.proofs.Along.{along-at, along-ports}
 
 -- windows are their ports and offsets
 along-parts : (ws : List Window) → windows-along (map (λ (w : Window). w .port) ws) (map (λ (w : Window). w .offset) ws) ≡ ws

@@ -4,15 +4,15 @@ use mathlib.Core.List.{List, [], _∷_, map}
 use mathlib.Core.Logic.{inl, inr}
 use Prim.Native.Nat.{ℕ, zero, suc, _+_, _-_, _*_, _≤_, _<_}
 use native.Mathlib.Omega.{arith}
-use lib.ListN.{length, getD, take}
+use lib.ListN.{getD}
 use Rattle.std.proofs.shelf.Lists.{getD-take}
 use Rattle.std.proofs.shelf.Tests.{cases-lt}
 use Rattle.schedule.specs.declared.tables.Window.{Window}
 use Rattle.schedule.specs.declared.refusal.Fault.{Fault}
-use Rattle.schedule.specs.declared.refusal.Fault.the-variants.{OffsetTooEarly, EndTooLate, ReachTooLate, DeliveryPastCycle, DeadlineMissed, WindowsTooClose}
+use Rattle.schedule.specs.declared.refusal.Fault.the-variants.{OffsetTooEarly, EndTooLate, ReachTooLate, DeliveryPastCycle, DeadlineMissed}
 use Rattle.schedule.specs.Numbers.{fault-place}
 use Rattle.schedule.specs.Plan.{Plan, Has-hop, no-window, flow-at, window-at, hop-count, port-at, offset-at, delay-of, end-at, crossed-at, late-at, early-at}
-use Rattle.schedule.specs.Rules.{Guarded, Ends-in-cycle, Reached-in-time, Delivered-in-cycle, Meets-deadline, Apart, Stands-apart, Flow-keeps, Broken-there}
+use Rattle.schedule.specs.Rules.{Guarded, Ends-in-cycle, Reached-in-time, Delivered-in-cycle, Meets-deadline, Apart, Broken-there}
 use Rattle.schedule.specs.Raising.{retimed, Later, Behind, Solves, Must-rise, Hopeless, Too-close}
 
 pub getD-map-all : {X Y : Type 0} (f : X → Y) (xs : List X) (i : ℕ) (d : X) → getD (map f xs) i (f d) ≡ f (getD xs i d)
@@ -85,10 +85,6 @@ module _ (P : Plan) (f h : ℕ) (has : h < hop-count P f) where
 
   pub hopeless-deadline : (Meets-deadline P f h → ⊥) → Hopeless P f
   hopeless-deadline broken others s = broken (λ e. let l = late-later P f others (s .0) (suc h) (omega arith) in let r = s .1 h has .meets e in omega arith)
-
-  -- an offset past the cycle is none
-  pub hopeless-past : (to : ℕ) → Must-rise P f h to → P .cycle ≤ to → Hopeless P f
-  hopeless-past to rise past others s = let l = rise .least others s in let r = s .1 h has .ends in omega arith
 
 -- a window that is too close
 module _ (P : Plan) (f h g k : ℕ) (has : h < hop-count P f) (behind : Behind P f) (near : Too-close P f h g k) where
@@ -164,6 +160,3 @@ module _ (P : Plan) (x : Fault) (f h : ℕ) (has : Has-hop P (fault-place x .0) 
 
   pub forced-deadline : x ≡ DeadlineMissed f h → Hopeless P (fault-place x .0)
   forced-deadline e = by-fault (DeadlineMissed f h) (λ (z : Fault). Hopeless P (fault-place z .0)) e (λ l b. hopeless-deadline P f h (l .1) (b .4))
-
-  pub not-apart : x ≡ WindowsTooClose f h → Stands-apart P f h → ⊥
-  not-apart e = by-fault (WindowsTooClose f h) (λ _. Stands-apart P f h → ⊥) e (λ l b. b .5)

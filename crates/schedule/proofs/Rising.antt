@@ -1,13 +1,13 @@
 -- Raising one offset after another: every solution stays ahead, and less and less room is left.
 use mathlib.Core.Path.{_≡_, refl, sym, ap, _∙_, subst}
-use mathlib.Core.Bool.{Bool, true, false}
+use mathlib.Core.Bool.{true, false}
 use mathlib.Core.List.{List}
-use Prim.Native.Nat.{ℕ, _+_, _≤_, _<_}
+use Prim.Native.Nat.{ℕ, _+_, _<_}
 use native.Mathlib.Omega.{arith}
 use lib.ListN.{length, getD}
 use Rattle.std.proofs.shelf.Tests.{both-ways}
 use Rattle.schedule.specs.declared.tables.Window.{Window}
-use Rattle.schedule.specs.Plan.{Plan, no-window, flow-at, hop-count, offset-at}
+use Rattle.schedule.specs.Plan.{Plan, no-window, flow-at, hop-count}
 use Rattle.schedule.specs.Rules.{Flow-keeps}
 use Rattle.schedule.specs.Raising.{retimed, Later, Solves, Must-rise, Hopeless, Raises, set-offset, rise-left}
 use Rattle.schedule.proofs.Moving.{rise-falls, later-trans, later-raised, raised-later}

@@ -3,7 +3,7 @@ use mathlib.Core.Path.{_≡_}
 use mathlib.Core.Bool.{Bool, true}
 use mathlib.Core.List.{List, [], _∷_, map}
 use Prim.Native.Nat.{ℕ, _+_, _-_, _≤_, _<_}
-use lib.ListN.{length, getD, take, set}
+use lib.ListN.{getD, take, set}
 use Rattle.schedule.specs.declared.tables.Flow.{Flow}
 use Rattle.schedule.specs.declared.tables.Window.{Window}
 use Rattle.schedule.specs.Plan.{Plan, no-window, flow-at, hop-count, port-at, offset-at}

@@ -1,12 +1,11 @@
-use borrow.Author.Needs.{needs}
-use mathlib.Core.Path.{_≡_, sym, ap, _∙_, subst}
-use Prim.Native.Nat.{ℕ, _+_, _*_}
+use mathlib.Core.Path.{sym, ap, subst}
+use Prim.Native.Nat.{_+_}
 use Rattle.std.specs.Options.{Cases}
 use Rattle.schedule.specs.declared.refusal.Fault.{Fault}
 use Rattle.schedule.specs.Numbers.{fault-place}
 use Rattle.schedule.specs.Raising.{Must-rise, Hopeless}
 use Rattle.schedule.specs.Drafts.{plan-of}
-use Rattle.schedule.proofs.Raising.{forced-guard, forced-reach, forced-end, forced-delivery, forced-deadline, not-apart}
+use Rattle.schedule.proofs.Raising.{forced-guard, forced-reach, forced-end, forced-delivery, forced-deadline}
 use Rattle.schedule.proofs.draft.Draft.forced_raise.Needs as need
 
 pub returns-in-OffsetTooEarly : need.returns-in-OffsetTooEarly

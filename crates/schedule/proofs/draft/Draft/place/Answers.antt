@@ -1,25 +1,21 @@
-use borrow.Author.Needs.{needs}
-use mathlib.Core.Path.{_≡_, refl, sym, ap, _∙_, subst}
-use mathlib.Core.Bool.{Bool, true, false}
-use mathlib.Core.List.{List, [], _∷_, _++_}
-use Prim.Native.Nat.{ℕ, _<_, _≤_}
+use mathlib.Core.Path.{_≡_, sym, ap, _∙_, subst}
+use mathlib.Core.List.{List}
+use Prim.Native.Nat.{ℕ, _≤_}
 use native.Mathlib.Omega.{arith}
 use lib.ListN.{length, take}
 use Rattle.std.specs.Of.Vec.{vec-items, vec-len}
 use Rattle.std.specs.declared.option.Option.the-variants.{Some}
 use Rattle.std.proofs.shelf.Lists.{length-push}
 use Rattle.std.proofs.shelf.Results.{err-from-errBy}
-use Rattle.std.proofs.shelf.Tests.{both-ways, cond-true, cond-false}
+use Rattle.std.proofs.shelf.Tests.{cond-true, cond-false}
 use Rattle.schedule.specs.declared.tables.Flow.{Flow}
-use Rattle.schedule.specs.declared.tables.Window.{Window}
 use Rattle.schedule.specs.declared.draft.Draft.{Draft}
 use Rattle.schedule.specs.declared.refusal.FlowRefusal.{FlowRefusal}
 use Rattle.schedule.specs.Numbers.{flow-number}
-use Rattle.schedule.specs.Plan.{Plan, flow-count, flow-at, hop-count}
-use Rattle.schedule.specs.Rules.{Flow-keeps}
+use Rattle.schedule.specs.Plan.{Plan, flow-count}
 use Rattle.schedule.specs.Drafts.{plan-of, with-flow}
-use Rattle.schedule.specs.Placing.{Places, None-fit, Least-placement}
-use Rattle.schedule.specs.Raising.{retimed, cut-back, Later, Solves, Raises, Behind, Tables-keep}
+use Rattle.schedule.specs.Placing.{Places, None-fit}
+use Rattle.schedule.specs.Raising.{cut-back, Raises, Behind, Tables-keep}
 use Rattle.schedule.proofs.Adding.{routed-least, routed-most}
 use Rattle.schedule.proofs.Lowest.{lowest, lowest-zero, lowest-length, routed, place-passes, refused-by-limits, refused-for-none}
 use Rattle.schedule.proofs.Placed.{all-behind, old-again, none-fit, placed}

@@ -1,8 +1,7 @@
-use mathlib.Core.Path.{_≡_, ap, subst}
-use Prim.Native.Nat.{ℕ, _+_, _<_}
+use mathlib.Core.Path.{ap, subst}
+use Prim.Native.Nat.{_+_, _<_}
 use native.Mathlib.Omega.{arith}
 use lib.ListN.{length}
-use Rattle.std.specs.Of.Vec.{vec-items}
 use Rattle.schedule.specs.Plan.{Plan, flow-at, flow-count}
 use Rattle.schedule.specs.Raising.{Must-rise, Hopeless}
 use Rattle.schedule.specs.Drafts.{plan-of}

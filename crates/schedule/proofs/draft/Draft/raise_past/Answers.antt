@@ -1,5 +1,5 @@
 use mathlib.Core.Path.{_≡_, sym, ap, subst}
-use Prim.Native.Nat.{ℕ, suc, _+_, _-_, _*_}
+use Prim.Native.Nat.{ℕ, _+_, _-_, _*_}
 use native.Mathlib.Omega.{arith}
 use Rattle.schedule.specs.declared.tables.Window.{Window}
 use Rattle.schedule.specs.Plan.{offset-at, end-at, early-at}
