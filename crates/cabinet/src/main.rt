@@ -1,4 +1,5 @@
 // Reads a scenario from standard input, does it call by call, and prints a reply for each.
+#![tactic(auto)]
 mod stop;
 
 use calls::session::Session;

@@ -1,3 +1,4 @@
 // The calls of a scenario done one at a time, with their replies.
+#![tactic(auto)]
 pub mod reply;
 pub mod session;

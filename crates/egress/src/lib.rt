@@ -1,4 +1,5 @@
 // What a port is made of: waiting lines, selections and clocks.
+#![tactic(auto)]
 pub mod choice;
 pub mod clock;
 pub mod line;

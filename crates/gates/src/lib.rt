@@ -1,4 +1,5 @@
 // Gate control lists of a checked plan, and the timetables that ports follow.
+#![tactic(auto)]
 pub mod entry;
 pub mod list;
 pub mod refusal;

@@ -1,4 +1,5 @@
 // Networks that run a checked plan: what they are, what their calls do, and what is promised of every run.
+#![tactic(auto)]
 pub mod figures;
 pub mod flight;
 mod lookups;

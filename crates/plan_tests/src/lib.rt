@@ -1,4 +1,5 @@
 // Examples of planning at and beyond each edge: proved safe, and run.
+#![tactic(auto)]
 #[cfg(test)]
 mod checks;
 #[cfg(test)]
