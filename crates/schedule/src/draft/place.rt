@@ -1,5 +1,5 @@
 // Placing a flow at the least offsets there are.
-ghost use Rattle.std.specs.Prelude.{◌≡◌, take, if◌then◌else◌, vec_len};
+ghost use Rattle.std.specs.Prelude.{◌≡◌, min, length, take, if◌then◌else◌, vec_len};
 ghost use Rattle.schedule.specs.Drafts.{plan_of};
 ghost use Rattle.schedule.specs.Placing.{Places, MinimumFits};
 ghost use Rattle.schedule.specs.Raising.{cut_back, TablesKeep, KeepsLeast};
@@ -11,6 +11,13 @@ use crate::refusal::FlowRefusal;
 
 // Where trial windows begin.
 const LOWEST: [u64; MAX_HOPS] = [0; MAX_HOPS];
+
+// How many hops a trial has: never more than there are lowest offsets.
+fn trial_hops(route: &[u64]) -> usize
+    ensures { result ≡ min (length route.now) 6 }
+{
+    route.len().min(MAX_HOPS)
+}
 
 // A draft with a trial flow as its last, and the counts of flows and windows before it: its end restores them unless the flow was kept.
 struct Trial<'a> {
@@ -54,7 +61,7 @@ impl Draft {
         ensures { KeepsLeast self.old request.entry.release request.entry.octets request.entry.deadline request.entry.route.now result self.new }
     {
         let windows = self.windows.len();
-        let hops = request.route.len().min(MAX_HOPS);
+        let hops = trial_hops(request.route);
         let flow = self.add(request, &LOWEST[..hops])?;
         let mut trial = Trial {
             draft: self,

@@ -30,7 +30,7 @@ returns-in_err-flow c =
     let told = c.in_err-flow.ensures in
     let (e, is, same) = err_from_is_err_and c.from_residual.result c.from_residual.ensures.1 in
     subst (λ x. KeepsLeast d r.release r.octets r.deadline r.route.now x c.add.new.self) (sym is)
-    (refused_by_limits (plan_of d) r.release r.octets r.deadline r.route.now c.min-hops.result (omega (arith, d.timing)) c.min-hops.ensures (flow_number e) (told.0 ∙ ap (λ (x : FlowRefusal). Some (flow_number x)) (sym same)), told.1)
+    (refused_by_limits (plan_of d) r.release r.octets r.deadline r.route.now c.trial_hops-hops.result (omega (arith, d.timing)) c.trial_hops-hops.ensures (flow_number e) (told.0 ∙ ap (λ (x : FlowRefusal). Some (flow_number x)) (sym same)), told.1)
 
 module _ (c : goal.In_ok-flow) where
   abbrev P : Plan
@@ -43,7 +43,7 @@ module _ (c : goal.In_ok-flow) where
   new = record { release = c.args.request.release; octets = c.args.request.octets; deadline = c.args.request.deadline; first = length P.windows; hops = length route }
 
   abbrev zeros : List ℕ
-  zeros = take c.min-hops.result lowest
+  zeros = take c.trial_hops-hops.result lowest
 
   abbrev tried : Plan
   tried = with_flow P c.args.request.release c.args.request.octets c.args.request.deadline route zeros
@@ -55,13 +55,13 @@ module _ (c : goal.In_ok-flow) where
   is_last = c.in_ok-flow.ensures.1
 
   hops_some : 1 ≤ length route
-  hops_some = routed_least (length P.ports) route (routed P c.args.request.release c.args.request.octets c.args.request.deadline route c.min-hops.result c.in_ok-flow.ensures.0)
+  hops_some = routed_least (length P.ports) route (routed P c.args.request.release c.args.request.octets c.args.request.deadline route c.trial_hops-hops.result c.in_ok-flow.ensures.0)
 
   zeros_length : length zeros ≡ length route
   zeros_length =
-      lowest_length route c.min-hops.result
-      (routed_most (length P.ports) route (routed P c.args.request.release c.args.request.octets c.args.request.deadline route c.min-hops.result c.in_ok-flow.ensures.0))
-      c.min-hops.ensures
+      lowest_length route c.trial_hops-hops.result
+      (routed_most (length P.ports) route (routed P c.args.request.release c.args.request.octets c.args.request.deadline route c.trial_hops-hops.result c.in_ok-flow.ensures.0))
+      c.trial_hops-hops.ensures
 
 pub raise_offsets-requires : goal.raise_offsets-requires
 raise_offsets-requires c =
@@ -97,7 +97,7 @@ module _ (c : goal.After-raise_offsets) where
   restored =
       let r = c.args.request in
       (λ i. cut_back (plan_of after) (is_last before i) (windows_is i))
-      ∙ old_again (P before) d.stretches r.release r.octets r.deadline (route before) (hops_some before) (zeros before) (zeros_length before) (lowest_zero c.min-hops.result) c.raise_offsets.result (plan_of after) raised
+      ∙ old_again (P before) d.stretches r.release r.octets r.deadline (route before) (hops_some before) (zeros before) (zeros_length before) (lowest_zero c.trial_hops-hops.result) c.raise_offsets.result (plan_of after) raised
 
   restorable : TablesKeep after.cycle (vec_len after.ports) (take c.in_ok-flow.flow (vec_items after.flows)) (take c.len-windows.result (vec_items after.windows))
   restorable =
@@ -115,12 +115,12 @@ returns c =
     let r = c.args.request in
     let p = P (before known) in
     either (d known) r.release r.octets r.deadline (route (before known)) c.raise_offsets.result _
-    (place_passes p r.release r.octets r.deadline (route (before known)) c.min-hops.result c.in_ok-flow.ensures.0)
+    (place_passes p r.release r.octets r.deadline (route (before known)) c.trial_hops-hops.result c.in_ok-flow.ensures.0)
     (λ kept.
     let (os, least, is) =
-    placed p (d known).stretches r.release r.octets r.deadline (route (before known)) (hops_some (before known)) (zeros (before known)) (zeros_length (before known)) (lowest_zero c.min-hops.result) c.raise_offsets.result (plan_of (after known)) (raised known) kept in
+    placed p (d known).stretches r.release r.octets r.deadline (route (before known)) (hops_some (before known)) (zeros (before known)) (zeros_length (before known)) (lowest_zero c.trial_hops-hops.result) c.raise_offsets.result (plan_of (after known)) (raised known) kept in
     (os, least, c.drop-trial.ensures ∙ cond-true _ _ _ kept ∙ is))
     (λ lost. (
-      none_fit p (d known).stretches r.release r.octets r.deadline (route (before known)) (hops_some (before known)) (zeros (before known)) (zeros_length (before known)) (lowest_zero c.min-hops.result) c.raise_offsets.result (plan_of (after known)) (raised known) lost,
+      none_fit p (d known).stretches r.release r.octets r.deadline (route (before known)) (hops_some (before known)) (zeros (before known)) (zeros_length (before known)) (lowest_zero c.trial_hops-hops.result) c.raise_offsets.result (plan_of (after known)) (raised known) lost,
       c.drop-trial.ensures ∙ cond-false _ _ _ lost ∙ restored known,
     ))
