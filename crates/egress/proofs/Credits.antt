@@ -1,11 +1,11 @@
 -- Runs of passes alike.
-use Rattle.std.proofs.Common.{◌≡◌, ℕ, zero, suc, ◌+◌, ◌-◌, ◌*◌, ◌/◌, ◌%◌, ◌^◌, ◌<◌, ◌≤◌, Bool, true, false, cond, ◌⊎◌, ℤ, pos, negsuc, ◌+ℤ◌, ◌-ℤ◌, ◌≤ℤ◌, ◌<ℤ◌, Some, None, Option, sym, refl, ap, ◌∙◌, subst, inl, inr, ⊎_elim, suc-mul, zero-mul, arith}
+use Rattle.std.proofs.Common.{◌≡◌, ℕ, zero, suc, ◌+◌, ◌-◌, ◌*◌, ◌/◌, ◌%◌, ◌^◌, ◌<◌, Bool, true, false, cond, ℤ, pos, negsuc, ◌+ℤ◌, ◌-ℤ◌, ◌≤ℤ◌, Some, None, Option, sym, refl, ap, ◌∙◌, suc-mul, zero-mul, arith}
 use lib.Signed.{lt_z}
 use Rattle.std.proofs.lemmas.Int.{ints, by_lt_z}
 use Rattle.std.proofs.lemmas.Bool.{eq-eqb, both_ways}
 use Rattle.egress.specs.declared.shaped.Shaped.{Shaped}
 use Rattle.egress.specs.declared.shaper.Shaper.{Shaper}
-use Rattle.egress.specs.Credit.{Limited, stopped, credited, turned}
+use Rattle.egress.specs.Credit.{Limited, stopped, turned}
 use Rattle.egress.specs.Mask.{In, has, sends}
 use Rattle.egress.specs.Figures.{turns, passes, Gains, Spends, Quarter, QuarterOfFive}
 

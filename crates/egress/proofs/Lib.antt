@@ -1,4 +1,5 @@
 pub mod Rings
 pub mod Orders
+pub mod Masks
 pub mod Shapes
 pub mod Credits

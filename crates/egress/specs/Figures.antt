@@ -1,5 +1,5 @@
 -- What a run of passes alike comes to, and the figures of a shaper with a quarter of the link.
-use Rattle.std.specs.Prelude.{◌≡◌, ℕ, zero, suc, ◌-◌, ◌*◌, Bool, true, false, ℤ, pos, negsuc, ◌+ℤ◌, ◌-ℤ◌, Some, None, Option}
+use Rattle.std.specs.Prelude.{◌≡◌, ℕ, zero, suc, ◌-◌, ◌*◌, Bool, true, false, pos, negsuc, ◌+ℤ◌, ◌-ℤ◌, Some, None, Option}
 use Rattle.egress.specs.declared.shaped.Shaped.{Shaped}
 use Rattle.egress.specs.declared.shaper.Shaper.{Shaper}
 use Rattle.egress.specs.Mask.{In}

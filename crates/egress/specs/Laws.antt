@@ -1,5 +1,5 @@
 -- The laws of a waiting line, over any kind of entry.
-use Rattle.std.specs.Prelude.{◌≡◌, ℕ, ◌+◌, ◌-◌, ◌<◌, ◌≤◌, cond, List, [], ◌∷◌, ◌++◌, length, Some, None, nat_lt}
+use Rattle.std.specs.Prelude.{◌≡◌, ℕ, ◌+◌, ◌-◌, ◌<◌, ◌≤◌, cond, List, [], ◌∷◌, ◌++◌, length, Some, nat_lt}
 use Rattle.egress.specs.declared.line.Line.{Line}
 use Rattle.egress.specs.Waiting.{waits, front, rest, joined, stored, longer, shorter, empty_line}
 

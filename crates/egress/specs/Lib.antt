@@ -5,6 +5,7 @@ pub mod Mask
 pub mod Credit
 pub mod Either
 pub mod Times
+pub mod ClockLemmas
 pub mod Settings
 pub mod Figures
 pub mod Masks

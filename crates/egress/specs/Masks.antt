@@ -1,12 +1,12 @@
 -- Bits of sets of classes, and that replying the highest class left is a selection.
-use Rattle.std.specs.Prelude.{◌≡◌, ℕ, zero, suc, ◌+◌, ◌-◌, ◌*◌, ◌/◌, ◌%◌, ◌^◌, ◌<◌, ◌≤◌, min, max, Bool, true, false, cond, ◌⊎◌, Some, None, Option, ◌==◌, ◌≢◌, bit_and, bit_or, refl}
-use Rattle.std.proofs.Common.{sym, ap, subst, ◌∙◌, inl, inr, ⊎_elim, mod-eq_of_lt, pow-suc, arith}
+use Rattle.std.specs.Prelude.{◌≡◌, ℕ, zero, suc, ◌+◌, ◌-◌, ◌/◌, ◌%◌, ◌^◌, ◌<◌, ◌≤◌, min, max, Some, None, Option, ◌==◌, ◌≢◌, bit_and, bit_or}
+use Rattle.std.proofs.Common.{sym, ap, subst, ◌∙◌, ⊎_elim, mod-eq_of_lt, pow-suc, arith, lit<}
 use Rattle.std.proofs.Math.Nat.{zero-div}
 use Rattle.std.specs.Int.Bits.{and_step, or_step}
 use Rattle.std.specs.Int.Count.{count_leading_zeros}
 use Rattle.std.proofs.lemmas.Nat.{div-mul-add, pow_pos, pow_below, div_below, and_mask, and_le_l, and_shr, or_shr, or_comm, leading_top}
 use Rattle.std.proofs.lemmas.Bool.{eq-eqb, ne_eqb, cases_eq, cases_lt, cond-true, cond-false}
-use Rattle.egress.specs.Mask.{left, In, highest, Within, Picks, SparesSeven}
+use Rattle.egress.specs.Mask.{left, In, highest, Within, Picks}
 
 -- what holds of each class holds of every number below 8
 pub by_class : (P : ℕ → Type 0) → P 0 → P 1 → P 2 → P 3 → P 4 → P 5 → P 6 → P 7 → (c : ℕ) → c < 8 → P c
@@ -95,16 +95,6 @@ in_or_l c m n h =
 pub in_or_r : (c m n : ℕ) → In c n → In c (bit_or m n)
 in_or_r c m n h = subst (In c) (or_comm n m) (in_or_l c n m h)
 
--- class 7 alone is available: any selection replies it
-only_seven : (c : ℕ) → c < 8 → In c 128 → c ≡ 7
-only_seven = by_class (λ c. In c 128 → c ≡ 7) (λ h. omega arith) (λ h. omega arith) (λ h. omega arith) (λ h. omega arith) (λ h. omega arith) (λ h. omega arith) (λ h. omega arith) (λ h. refl)
-
-not_held : (may h : ℕ) → SparesSeven may → Within h may → In 7 h → ⊥
-not_held may h s w p = let q = w.among 7 p in let l = in_below 7 may 7 s q in omega arith
-
-replied : (h : ℕ) (pick : ℕ → Option ℕ) → Picks h pick → (In 7 h → ⊥) → (o : Option ℕ) → pick 128 ≡ o → o ≡ Some 7
-replied h pick p n None e = absurd (n (p.none 128 (omega arith) e 7 refl))
-replied h pick p n (Some c) e = let t = p.class 128 c (omega arith) e in ap Some (only_seven c t.0 t.1)
-
-pub seven_goes : (may h : ℕ) (pick : ℕ → Option ℕ) → SparesSeven may → Within h may → Picks h pick → pick 128 ≡ Some 7
-seven_goes may h pick s w p = replied h pick p (not_held may h s w) (pick 128) refl
+-- no class is held back
+pub none_within : Within 0 0
+none_within = record { mask = lit< tt; among = λ c h. h }

@@ -1,5 +1,5 @@
 -- Settings of selections and clocks, and which of them are refused.
-use Rattle.std.specs.Prelude.{◌≡◌, ℕ, ◌<◌, Bool, cond, ◌&&◌, ℤ, pos, negsuc, Some, None, Ok, Err, Option, Result, int_lt, nat_lt}
+use Rattle.std.specs.Prelude.{◌≡◌, ℕ, Bool, cond, ◌&&◌, ℤ, pos, negsuc, Some, None, Ok, Err, Option, Result, int_lt, nat_lt}
 use Rattle.egress.specs.declared.setting.Refused.{Refused}
 use Rattle.egress.specs.declared.setting.Refused.TheVariants.{Slope, Shift, Margin, Period}
 use Rattle.egress.specs.declared.shaper.Shaper.{Shaper}

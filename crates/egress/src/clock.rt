@@ -1,7 +1,7 @@
 // Clocks: what a port reads at each true tick.
 ghost use Rattle.std.specs.Prelude.{◌≡◌, ℕ, ◌^◌, ◌≤◌};
 ghost use Rattle.egress.specs.Times.{upto, Near};
-ghost use Rattle.std.proofs.Common.{rules};
+ghost use Rattle.egress.specs.ClockLemmas.{exact_near};
 
 // Past this tick every clock stands still.
 const HORIZON: u64 = 1 << 48;
@@ -40,7 +40,7 @@ impl Clock for Exact {
 
     ghost bound = { λ _. 0 };
 
-    ghost near = { Prim.search rules };
+    ghost near = { λ _ t _ h. exact_near t h };
 
     fn read(&self, t: u64) -> u64 {
         up_to_horizon(t)

@@ -1,5 +1,6 @@
 // What a port is made of: waiting lines, selections and clocks.
 #![tactic(auto)]
+
 pub mod choice;
 pub mod clock;
 pub mod line;

@@ -5,7 +5,7 @@ ghost use Rattle.egress.specs.Credit.{credited, credit_of, held_back, passed_on}
 ghost use Rattle.egress.specs.Settings.{slope_fits, MadeShaper};
 ghost use Rattle.egress.specs.ShaperSelectionLemmas.{held_within};
 ghost use Rattle.egress.specs.Masks.{highest_picks};
-ghost use Rattle.std.proofs.Common.{rules};
+ghost use Rattle.std.proofs.Common.{lit<};
 
 use crate::selection::Selection;
 use crate::setting::Refused;
@@ -97,7 +97,7 @@ impl Selection for Shaper {
 
     const MASK: u8 = 96;
 
-    ghost spared = { Prim.search rules };
+    ghost spared = { lit< tt };
 
     ghost within = { λ s. held_within (int_lt s.six.credit (pos 0)) (int_lt s.five.credit (pos 0)) };
 

@@ -1,8 +1,8 @@
 // Strict priority: the highest available class, none held back (IEEE 802.1Q, 8.6.8.1).
 ghost use Rattle.std.specs.Prelude.{◌≡◌, ℕ};
-ghost use Rattle.std.proofs.Common.{sym, ap, arith, rules};
+ghost use Rattle.std.proofs.Common.{sym, ap, lit<};
 ghost use Rattle.egress.specs.Mask.{highest};
-ghost use Rattle.egress.specs.Masks.{highest_picks, left_none};
+ghost use Rattle.egress.specs.Masks.{highest_picks, left_none, none_within};
 
 use crate::selection::Selection;
 
@@ -30,11 +30,11 @@ impl Selection for StrictPriority {
 
     const MASK: u8 = 0;
 
-    ghost spared = { Prim.search rules };
+    ghost spared = { lit< tt };
 
-    ghost within = { Prim.search rules };
+    ghost within = { λ _. none_within };
 
-    ghost picks = { λ s. highest_picks 0 highest (omega arith) (λ a l. ap highest (sym (left_none a l))) };
+    ghost picks = { λ s. highest_picks 0 highest (lit< tt) (λ a l. ap highest (sym (left_none a l))) };
 
     fn may_hold() -> u8 {
         Self::MASK

@@ -1,9 +1,9 @@
 -- Between two edges the octet stays.
-use Rattle.std.proofs.Common.{◌≡◌, ℕ, zero, suc, ◌+◌, ◌-◌, ◌*◌, ◌<◌, ◌≤◌, Bool, true, false, cond, ◌&&◌, ◌||◌, eqb, ltb, leb, ◌⊎◌, sym, refl, ap, ◌∙◌, subst, inl, inr, arith}
-use Rattle.std.proofs.lemmas.Bool.{cases_lt, cases_eq, cases_Bool, lt-ltb, le-ltb, le-leb, lt-leb, eq-eqb, eqb-true, eqb-false, ltb-true, and_parts, cond_both}
+use Rattle.std.proofs.Common.{◌≡◌, ℕ, zero, suc, ◌+◌, ◌-◌, ◌*◌, ◌<◌, ◌≤◌, Bool, cond, ◌&&◌, ◌||◌, eqb, ltb, leb, ◌⊎◌, sym, refl, ap, ◌∙◌, subst, inl, inr, arith}
+use Rattle.std.proofs.lemmas.Bool.{cases_lt, cases_eq, cases_Bool, lt-ltb, le-ltb, le-leb, lt-leb, eqb-true, eqb-false, ltb-true, and_parts, cond_both}
 use Rattle.schedule.specs.Plan.{Plan, flow_count, hop_count, port_at, offset_at, end_at}
 use Rattle.gates.specs.declared.list.stretch.Stretch.{Stretch}
-use Rattle.gates.specs.Octets.{some, inside, ahead, in_window, in_guard, octet_by, octet_at}
+use Rattle.gates.specs.Octets.{some, inside, ahead, octet_by, octet_at}
 use Rattle.gates.specs.Scan.{nearer, until_with, stretch_with, stretch_at, stretch_hops, stretch_flows, open_stretch, stretch_after}
 
 -- an edge is not between a tick and a later one

@@ -1,12 +1,12 @@
 -- The worked example, computed.
-use Rattle.std.proofs.Common.{◌≡◌, ℕ, zero, suc, ◌+◌, ◌-◌, ◌<◌, ◌≤◌, List, [], ◌∷◌, get_or, drop, sym, refl, ap, ◌∙◌, inl, inr, arith, lit<, lit≤}
+use Rattle.std.proofs.Common.{◌≡◌, ℕ, zero, suc, ◌-◌, ◌<◌, ◌≤◌, [], get_or, drop, sym, refl, ◌∙◌, inl, inr, arith, lit<, lit≤}
 use Rattle.gates.specs.declared.entry.GateEntry.{GateEntry}
 use Rattle.std.proofs.lemmas.Bool.{cases_lt}
-use Rattle.schedule.specs.Plan.{Plan, hop_count, port_at, offset_at}
+use Rattle.schedule.specs.Plan.{Plan, hop_count, port_at}
 use Rattle.schedule.specs.Rules.{Good, KeepsRules, FlowKeeps, Apart}
 use Rattle.gates.specs.Octets.{octet_at}
 use Rattle.gates.specs.Scan.{stretch_after}
-use Rattle.gates.specs.Lists.{no_entry, yields, Lasting, Changing, IsGateList}
+use Rattle.gates.specs.Lists.{no_entry, yields, Lasting, Changing}
 use Rattle.gates.specs.Figures.{one_flow, two_flows, list_of_one, Figures}
 use Rattle.gates.proofs.Placements.{first_placed, second_placed, sooner_refused}
 use Rattle.gates.proofs.Meets.{stretch_octet}

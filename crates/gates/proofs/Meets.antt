@@ -1,10 +1,10 @@
 -- The octet read off the windows one by one is the octet that they give.
-use Rattle.std.proofs.Common.{◌≡◌, ℕ, zero, suc, ◌+◌, ◌-◌, ◌*◌, ◌<◌, ◌≤◌, Bool, true, false, cond, ◌&&◌, ◌||◌, eqb, ltb, leb, sym, refl, ap, ◌∙◌, inl, inr, arith}
+use Rattle.std.proofs.Common.{◌≡◌, ℕ, zero, suc, ◌+◌, ◌-◌, ◌*◌, ◌≤◌, Bool, true, false, cond, ◌&&◌, ◌||◌, eqb, ltb, leb, sym, refl, ap, ◌∙◌, inl, inr, arith}
 use lib.Bits.{bit_and, bit_or}
-use Rattle.std.proofs.lemmas.Bool.{cases_lt, cases_Bool, lt-ltb, le-ltb, le-leb, lt-leb, cond-true, cond-false}
+use Rattle.std.proofs.lemmas.Bool.{cases_lt, cases_Bool, lt-ltb, le-ltb, le-leb, lt-leb}
 use Rattle.schedule.specs.Plan.{Plan, flow_count, hop_count, port_at, offset_at, end_at}
 use Rattle.gates.specs.declared.list.stretch.Stretch.{Stretch}
-use Rattle.gates.specs.Octets.{some, inside, ahead, in_window, in_guard, octet_by, octet_at}
+use Rattle.gates.specs.Octets.{some, inside, ahead, octet_by, octet_at}
 use Rattle.gates.specs.Scan.{octet_with, stretch_with, stretch_at, stretch_hops, stretch_flows, open_stretch, stretch_after}
 
 -- the two sides of one step, over the tests that they make

@@ -1,5 +1,5 @@
 -- A gate list in the making, from change to change.
-use Rattle.std.proofs.Common.{◌≡◌, ℕ, ◌+◌, ◌-◌, ◌<◌, ◌≤◌, List, [], ◌∷◌, ◌++◌, length, get_or, sym, refl, ap, ◌∙◌, subst, inl, inr, arith}
+use Rattle.std.proofs.Common.{◌≡◌, ℕ, ◌+◌, ◌-◌, ◌<◌, ◌≤◌, List, [], ◌∷◌, ◌++◌, length, sym, refl, ap, ◌∙◌, subst, inl, inr, arith}
 use Rattle.std.proofs.lemmas.List.{length_push}
 use Rattle.std.proofs.lemmas.Bool.{cases_lt}
 use Rattle.schedule.specs.Plan.{Plan}
@@ -9,7 +9,7 @@ use Rattle.gates.specs.declared.entry.GateEntry.{GateEntry}
 use Rattle.gates.specs.declared.list.stretch.Stretch.{Stretch}
 use Rattle.gates.specs.Octets.{octet_at}
 use Rattle.gates.specs.Scan.{stretch_after}
-use Rattle.gates.specs.Lists.{no_entry, total, yields, Lasting, Changing, IsGateList}
+use Rattle.gates.specs.Lists.{total, yields, Lasting, Changing, IsGateList}
 use Rattle.gates.proofs.Meets.{stretch_octet}
 use Rattle.gates.proofs.Edges.{until_le, until_gt, octet_stays}
 use Rattle.gates.proofs.Counts.{edges_after, stretch_fewer, edges_most}

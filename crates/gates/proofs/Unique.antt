@@ -1,10 +1,8 @@
 -- A port has one gate list.
-use Rattle.std.proofs.Common.{◌≡◌, ℕ, zero, suc, ◌+◌, ◌-◌, ◌<◌, ◌≤◌, List, [], ◌∷◌, length, get_or, sym, refl, ap, ◌∙◌, inl, inr, arith}
+use Rattle.std.proofs.Common.{◌≡◌, ℕ, suc, ◌+◌, ◌-◌, ◌<◌, List, [], ◌∷◌, get_or, sym, refl, ap, ◌∙◌, inl, inr, arith}
 use Rattle.std.proofs.lemmas.Bool.{cases_order}
-use Rattle.schedule.specs.Plan.{Plan}
 use Rattle.gates.specs.declared.entry.GateEntry.{GateEntry}
-use Rattle.gates.specs.Octets.{octet_at}
-use Rattle.gates.specs.Lists.{no_entry, total, yields, Lasting, Changing, IsGateList, OneGateList}
+use Rattle.gates.specs.Lists.{no_entry, total, yields, Lasting, Changing, OneGateList}
 use Rattle.gates.proofs.Entries.{yields_head, yields_tail}
 
 -- two lists that yield the same

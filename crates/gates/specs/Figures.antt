@@ -1,5 +1,5 @@
 -- A worked example: two flows over two ports, placed, with their certificates and a gate list.
-use Rattle.std.specs.Prelude.{◌≡◌, ℕ, List, [], ◌∷◌}
+use Rattle.std.specs.Prelude.{◌≡◌, List, [], ◌∷◌}
 use Rattle.schedule.specs.Plan.{Plan, certificate_of}
 use Rattle.schedule.specs.Rules.{Good}
 use Rattle.schedule.specs.Drafts.{empty_plan, with_flow}

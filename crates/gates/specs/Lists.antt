@@ -1,5 +1,5 @@
 -- Gate control lists, and which of them is that of a port.
-use Rattle.std.specs.Prelude.{◌≡◌, ℕ, ◌+◌, ◌-◌, ◌<◌, ◌≤◌, Bool, cond, List, [], ◌∷◌, length, ◌≢◌, nat_lt, slice_index_or}
+use Rattle.std.specs.Prelude.{◌≡◌, ℕ, ◌+◌, ◌-◌, ◌<◌, ◌≤◌, cond, List, [], ◌∷◌, length, ◌≢◌, nat_lt, slice_index_or}
 use Rattle.gates.specs.declared.entry.GateEntry.{GateEntry}
 use Rattle.schedule.specs.declared.checked.CheckedPlan.{CheckedPlan}
 use Rattle.schedule.specs.Plan.{Plan}

@@ -1,5 +1,5 @@
 -- Making the gate list of a port: the reply, and the list.
-use Rattle.std.specs.Prelude.{◌≡◌, ℕ, length, Some, None, Ok, Err, vec_items, Option, Result, nat_lt}
+use Rattle.std.specs.Prelude.{◌≡◌, ℕ, length, None, Ok, Err, vec_items, Option, Result, nat_lt}
 use Rattle.schedule.specs.Limits.{unless}
 use Rattle.schedule.specs.Plan.{Plan}
 use Rattle.gates.specs.declared.list.GateList.{GateList}

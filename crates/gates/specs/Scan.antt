@@ -1,5 +1,5 @@
 -- How the octet at a tick, and a later tick before which it cannot change, are read off the windows one by one.
-use Rattle.std.specs.Prelude.{ℕ, zero, suc, ◌-◌, ◌*◌, Bool, cond, ◌&&◌, ◌==◌, bit_and, bit_or, nat_le, nat_lt}
+use Rattle.std.specs.Prelude.{ℕ, zero, suc, ◌-◌, ◌*◌, cond, ◌&&◌, ◌==◌, bit_and, bit_or, nat_le, nat_lt}
 use Rattle.schedule.specs.Plan.{Plan, flow_count, hop_count, port_at, offset_at, end_at}
 use Rattle.gates.specs.declared.list.stretch.Stretch.{Stretch}
 

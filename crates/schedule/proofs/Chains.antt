@@ -1,7 +1,7 @@
 -- Along the hops of a flow that keeps the rules, a frame comes after its release and before its deadline.
-use Rattle.std.proofs.Common.{◌≡◌, ℕ, zero, suc, ◌+◌, ◌*◌, ◌<◌, ◌≤◌, sym, refl, ap, ◌∙◌, arith}
-use Rattle.schedule.specs.Plan.{Plan, hop_count, release_of, deadline_of, offset_at, crossed_at, late_at, early_at}
-use Rattle.schedule.specs.Rules.{FlowKeeps, KeepsRules}
+use Rattle.std.proofs.Common.{◌≡◌, ℕ, zero, suc, ◌+◌, ◌≤◌, refl, arith}
+use Rattle.schedule.specs.Plan.{Plan, hop_count, release_of, deadline_of, late_at, early_at}
+use Rattle.schedule.specs.Rules.{FlowKeeps}
 
 module _ (P : Plan) (f : ℕ) (keeps : FlowKeeps P f) where
   pub late_past : (h : ℕ) → h ≤ hop_count P f → release_of P f ≤ late_at P f h

@@ -1,11 +1,9 @@
 -- The hops of a flow are at different ports.
-use Rattle.std.proofs.Common.{◌≡◌, ℕ, ◌+◌, ◌<◌, ◌≤◌, List, map, length, get_or, take, drop, vec_items, vec_len, sym, ap, ◌∙◌, arith}
+use Rattle.std.proofs.Common.{◌≡◌, ℕ, ◌<◌, List, map, length, get_or, take, drop, vec_items, vec_len, sym, ap, ◌∙◌, arith}
 use Rattle.std.proofs.lemmas.List.{length-map, length-drop, length-take-le, get_or-map, get_or-take, get_or-drop}
-use Rattle.schedule.specs.declared.tables.Flow.{Flow}
 use Rattle.schedule.specs.declared.tables.Window.{Window}
 use Rattle.schedule.specs.declared.draft.Draft.{Draft}
-use Rattle.schedule.specs.Plan.{no_flow, no_window, flow_count, hop_count, port_at, flow_at}
-use Rattle.schedule.specs.Held.{route_in}
+use Rattle.schedule.specs.Plan.{no_window, flow_count, hop_count, port_at, flow_at}
 use Rattle.schedule.specs.Drafts.{plan_of}
 use Rattle.schedule.proofs.Limited.{differ_apart}
 

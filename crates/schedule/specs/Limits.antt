@@ -1,5 +1,5 @@
 -- The limits of what a plan is made of, as tests, and the order in which a call makes them.
-use Rattle.std.specs.Prelude.{ℕ, Bool, true, false, cond, not, ◌&&◌, ◌||◌, List, [], ◌∷◌, length, Some, None, Option, ◌==◌, nat_le, nat_lt}
+use Rattle.std.specs.Prelude.{ℕ, Bool, true, false, cond, not, ◌&&◌, ◌||◌, List, [], ◌∷◌, length, Some, Option, ◌==◌, nat_le, nat_lt}
 
 -- a check that failed refuses with its number n; else what the later checks say
 abbrev pub unless : Bool → ℕ → Option ℕ → Option ℕ

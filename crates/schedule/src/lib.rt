@@ -1,5 +1,6 @@
 // Planning: flows and their windows, the rules that they keep, drafts and checked plans.
 #![tactic(auto)]
+
 pub mod checked;
 pub mod draft;
 pub mod limits;

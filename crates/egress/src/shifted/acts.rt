@@ -1,7 +1,7 @@
 ghost use Rattle.std.specs.Prelude.{◌≡◌, ℕ, ◌≤◌, ℤ};
 ghost use Rattle.egress.specs.Settings.{MadeShifted};
 ghost use Rattle.egress.specs.Times.{upto, moved_by, size};
-ghost use Rattle.std.proofs.Common.{rules, arith};
+ghost use Rattle.egress.specs.ClockLemmas.{moved_near};
 
 use super::Shifted;
 use crate::clock::{Clock, up_to_horizon};
@@ -27,7 +27,7 @@ impl Clock for Shifted {
 
     ghost bound = { λ c. size c.by };
 
-    ghost near = { first_of (Prim.search rules, Prim.grind (arith, Self.row.coded.inj)) };
+    ghost near = { λ c. moved_near c.by };
 
     fn read(&self, t: u64) -> u64 {
         let t = up_to_horizon(t);

@@ -1,7 +1,7 @@
 ghost use Rattle.std.specs.Prelude.{◌≡◌, ℕ, ◌<◌, ◌≤◌};
 ghost use Rattle.egress.specs.Settings.{MadeStepped};
 ghost use Rattle.egress.specs.Times.{upto, steps};
-ghost use Rattle.std.proofs.Common.{rules, arith};
+ghost use Rattle.egress.specs.ClockLemmas.{steps_near};
 
 use super::Stepped;
 use crate::clock::{Clock, up_to_horizon};
@@ -31,7 +31,7 @@ impl Clock for Stepped {
 
     ghost bound = { λ c. c.margin };
 
-    ghost near = { first_of (Prim.search rules, Prim.grind (arith, Self.row.coded.inj)) };
+    ghost near = { λ c. steps_near c.margin c.period };
 
     fn read(&self, t: u64) -> u64 {
         let t = up_to_horizon(t);

@@ -1,5 +1,5 @@
 use Rattle.std.proofs.Common.{ap, ◌∙◌}
-use Rattle.egress.specs.Masks.{seven_goes}
+use Rattle.egress.proofs.Masks.{seven_goes}
 use Rattle.egress.proofs.shown.asked.Goals as goal
 
 pub returns : goal.returns

@@ -9,4 +9,4 @@ returns-then-wire c =
     let s = c.from-slope.result in
     let z = to_z w32 (of_z w32 (to_z w32 (of_z w32 (to_z w32 (of_z w32 c.args.credit) +ℤ to_z w32 (of_z w32 s))) -ℤ pos 1000)) in
     let e : z ≡ c.args.credit +ℤ pos c.args.slope +ℤ negsuc 999 = omega (arith, ints) in
-    to_z-of_z w32 c.stop.result (record { sfits = c.stop.type-inv }) ∙ c.stop.ensures ∙ ap stopped e ∙ sym (cond-true c.args.wire _ _ c.if-wire.true)
+    to_z-of_z w32 c.stop.result (record { sfits = c.stop.type_inv }) ∙ c.stop.ensures ∙ ap stopped e ∙ sym (cond-true c.args.wire _ _ c.if-wire.true)

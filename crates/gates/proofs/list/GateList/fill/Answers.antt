@@ -1,56 +1,60 @@
-use Rattle.std.proofs.Common.{◌≡◌, ℕ, ◌+◌, ◌-◌, ◌<◌, ◌≤◌, [], ◌∷◌, ◌++◌, vec_items, vec_capacity, sym, refl, ap, ◌∙◌, arith, rules}
+use Rattle.std.proofs.Common.{ℕ, ◌-◌, ◌<◌, [], ◌∷◌, ◌++◌, vec_items, sym, ap, ◌∙◌, arith}
 use Rattle.schedule.specs.Checks.{checked_plan}
 use Rattle.gates.specs.declared.list.stretch.Stretch.{Stretch}
 use Rattle.gates.specs.declared.entry.GateEntry.{GateEntry}
 use Rattle.gates.specs.Lists.{IsGateList}
-use Rattle.gates.specs.Scan.{stretch_after}
 use Rattle.gates.proofs.Edges.{until_gt}
-use Rattle.gates.proofs.Running.{Running, running_start, running_on, running_push, finished}
-use Rattle.gates.proofs.list.GateList.fill.Goals.{After-stretch-from-stretch-in-loop-stretch, After-push-reserved-2}
+use Rattle.gates.proofs.Running.{running_start, running_on, running_push, finished}
+use Rattle.gates.proofs.list.GateList.fill.Goals.{After-stretch_from-stretch-in-loop-stretch, After-push_reserved-2}
 use Rattle.gates.proofs.list.GateList.fill.Goals as goal
 
 pub loop-stretch-init : goal.loop-stretch-init
-loop-stretch-init c = (running_start c.args.plan.now c.args.port (vec_items c.args.entries) c.requires.0 c.stretch-from-stretch.result c.stretch-from-stretch.ensures, c.requires.1)
+loop-stretch-init c = (running_start c.args.plan.now c.args.port (vec_items c.args.entries) c.requires.0 c.stretch_from-stretch.result c.stretch_from-stretch.ensures, c.requires.1)
 
 -- the stretch that comes next lies further on
-further : (c : goal.After-stretch-from-stretch-in-loop-stretch) → c.loop-stretch.stretch.until < c.stretch-from-stretch-in-loop-stretch.result.until
+further : (c : goal.After-stretch_from-stretch-in-loop-stretch) → c.loop-stretch.stretch.until < c.stretch_from-stretch-in-loop-stretch.result.until
 further c =
-    let e = ap (λ (s : Stretch). s.until) c.stretch-from-stretch-in-loop-stretch.ensures in
+    let e = ap (λ (s : Stretch). s.until) c.stretch_from-stretch-in-loop-stretch.ensures in
     let gt = until_gt (checked_plan c.args.plan.now) c.args.port c.loop-stretch.stretch.until (omega (arith, c.cycle-cycle.ensures)) in
     omega arith
 
 pub loop-stretch-smaller-then-stretch-octet : goal.loop-stretch-smaller-then-stretch-octet
-loop-stretch-smaller-then-stretch-octet c = let h = further (goal.at.loop-stretch-smaller-then-stretch-octet c).After-stretch-from-stretch-in-loop-stretch in omega arith
+loop-stretch-smaller-then-stretch-octet c = let h = further (goal.at.loop-stretch-smaller-then-stretch-octet c).After-stretch_from-stretch-in-loop-stretch in omega arith
 
 pub loop-stretch-preserved-then-stretch-octet : goal.loop-stretch-preserved-then-stretch-octet
 loop-stretch-preserved-then-stretch-octet c = (
   running_on c.args.plan.now c.args.port (vec_items c.loop-stretch.entries) c.loop-stretch.begun c.loop-stretch.stretch c.loop-stretch.invariant.0
-      (omega (arith, c.cycle-cycle.ensures)) c.stretch-from-stretch-in-loop-stretch.result c.stretch-from-stretch-in-loop-stretch.ensures c.if-stretch-octet.true,
+      (omega (arith, c.cycle-cycle.ensures)) c.stretch_from-stretch-in-loop-stretch.result c.stretch_from-stretch-in-loop-stretch.ensures c.if-stretch-octet.true,
   c.loop-stretch.invariant.1,
 )
 
 pub loop-stretch-smaller : goal.loop-stretch-smaller
-loop-stretch-smaller c = let h = further (goal.at.loop-stretch-smaller c).After-stretch-from-stretch-in-loop-stretch in omega arith
+loop-stretch-smaller c = let h = further (goal.at.loop-stretch-smaller c).After-stretch_from-stretch-in-loop-stretch in omega arith
 
 pub loop-stretch-preserved : goal.loop-stretch-preserved
 loop-stretch-preserved c = (
   running_push c.args.plan.now c.args.port (vec_items c.loop-stretch.entries) c.loop-stretch.begun c.loop-stretch.stretch c.loop-stretch.invariant.0
-      (omega (arith, c.cycle-cycle.ensures)) c.stretch-from-stretch-in-loop-stretch.result c.stretch-from-stretch-in-loop-stretch.ensures c.if-stretch-octet.false
-      (vec_items c.push-reserved.new.self) c.push-reserved.ensures.items,
-  omega (arith, c.push-reserved.ensures.capacity),
+      (omega (arith, c.cycle-cycle.ensures)) c.stretch_from-stretch-in-loop-stretch.result c.stretch_from-stretch-in-loop-stretch.ensures c.if-stretch-octet.false
+      (vec_items c.push_reserved.new.self) c.push_reserved.ensures.items,
+  omega (arith, c.push_reserved.ensures.capacity),
 )
 
-whole_list : (c : goal.After-push-reserved-2) → IsGateList (checked_plan c.args.plan.now) c.args.port (vec_items c.push-reserved-2.new.self)
+whole_list : (c : goal.After-push_reserved-2) → IsGateList (checked_plan c.args.plan.now) c.args.port (vec_items c.push_reserved-2.new.self)
 whole_list c =
     let es = vec_items c.loop-stretch.entries in
     let entry : ℕ → GateEntry = λ n. record { octet = c.loop-stretch.stretch.octet; ticks = n - c.loop-stretch.begun } in
     finished c.args.plan.now c.args.port es c.loop-stretch.begun c.loop-stretch.stretch c.loop-stretch.invariant.0
-    (omega (arith, c.cycle-cycle.ensures)) (vec_items c.push-reserved-2.new.self) (c.push-reserved-2.ensures.items ∙ ap (λ n. es ++ entry n ∷ []) c.cycle-cycle.ensures)
+    (omega (arith, c.cycle-cycle.ensures)) (vec_items c.push_reserved-2.new.self) (c.push_reserved-2.ensures.items ∙ ap (λ n. es ++ entry n ∷ []) c.cycle-cycle.ensures)
 
-pub invariant-of-result : goal.invariant-of-result
-invariant-of-result c =
-    let made = whole_list (goal.at.invariant-of-result c).After-push-reserved-2 in
-    (made.lasting, (made.whole ∙ sym c.cycle.ensures, (omega (arith, c.cycle.ensures, c.args.plan.now.draft.timing.0), (omega (arith, c.loop-stretch.invariant.1, c.push-reserved-2.ensures.capacity), tt))))
+pub invariant_of-result : goal.invariant_of-result
+invariant_of-result c =
+    let made = whole_list (goal.at.invariant_of-result c).After-push_reserved-2 in
+    record {
+      lasting = made.lasting;
+      whole = made.whole ∙ sym c.cycle.ensures;
+      positive = omega (arith, c.cycle.ensures, c.args.plan.now.draft.timing.0);
+      roomy = omega (arith, c.loop-stretch.invariant.1, c.push_reserved-2.ensures.capacity);
+    }
 
 pub returns : goal.returns
-returns c = (c.cycle.ensures, whole_list (goal.at.returns c).After-push-reserved-2)
+returns c = (c.cycle.ensures, whole_list (goal.at.returns c).After-push_reserved-2)

@@ -7,5 +7,5 @@ returns-then-l-base c = list_shut (vec_items c.args.self.now.entries) c.args.sel
 
 pub returns : goal.returns
 returns c =
-    list_turns (vec_items c.args.self.now.entries) c.args.self.now.cycle c.args.base c.args.l c.args.class c.args.most c.open-round.result
-    c.if-l-base.false c.open-round.ensures
+    list_turns (vec_items c.args.self.now.entries) c.args.self.now.cycle c.args.base c.args.l c.args.class c.args.most c.open_round.result
+    c.if-l-base.false c.open_round.ensures

@@ -9,5 +9,5 @@ returns-then-l-base c = sym (span_before (vec_items c.args.self.now.entries) c.a
 
 pub returns : goal.returns
 returns c =
-    c.span-in.ensures ∙ ap (λ (l : List GateEntry). entry_span l ((c.args.l - c.args.base) % c.args.self.now.cycle)) c.entries.ensures
+    c.span_in.ensures ∙ ap (λ (l : List GateEntry). entry_span l ((c.args.l - c.args.base) % c.args.self.now.cycle)) c.entries.ensures
     ∙ sym (span_round (vec_items c.args.self.now.entries) c.args.self.now.cycle c.args.base c.args.l c.if-l-base.false)

@@ -11,7 +11,7 @@ loop-hop-init c = refl
 pub loop-hop-preserved : goal.loop-hop-preserved
 loop-hop-preserved c =
     let P = checked_plan c.args.plan.now in
-    c.with-hop-stretch.ensures ∙ ap (stretch_at P c.args.port c.args.tick c.args.flow c.loop-hop.hop) c.loop-hop.invariant
+    c.with_hop-stretch.ensures ∙ ap (stretch_at P c.args.port c.args.tick c.args.flow c.loop-hop.hop) c.loop-hop.invariant
     ∙ ap (stretch_hops P c.args.port c.args.tick c.args.flow c.args.start) (sym (add-one c.loop-hop.hop))
 
 pub returns : goal.returns

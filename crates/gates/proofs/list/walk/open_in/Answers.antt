@@ -30,22 +30,22 @@ loop-entry-preserved-then-left-ticks c =
     let h = passes c.args.entries.now c.loop-entry.entry-index c.loop-entry.left c.args.class (omega arith) c.if-left-ticks.true in
     ap (λ n. c.loop-entry.open + n) (sym h) ∙ c.loop-entry.invariant
 
-pub returns-then-not-is-open : goal.returns-then-not-is-open
-returns-then-not-is-open c =
-    let h = shuts c.args.entries.now c.loop-entry.entry-index c.loop-entry.left c.args.class (omega arith) c.if-left-ticks.false (sym c.if-not-is-open.ensures) in
+pub returns-then-not-is_open : goal.returns-then-not-is_open
+returns-then-not-is_open c =
+    let h = shuts c.args.entries.now c.loop-entry.entry-index c.loop-entry.left c.args.class (omega arith) c.if-left-ticks.false (sym c.if-not-is_open.ensures) in
     let i = c.loop-entry.invariant in
     omega arith
 
 -- an open entry adds what is left of it
-added : (c : goal.Else-not-is-open) → c.loop-entry.open + ((get_or c.args.entries.now c.loop-entry.entry-index no_entry).ticks - c.loop-entry.left)
+added : (c : goal.Else-not-is_open) → c.loop-entry.open + ((get_or c.args.entries.now c.loop-entry.entry-index no_entry).ticks - c.loop-entry.left)
     + entry_open (drop (c.loop-entry.entry-index + 1) c.args.entries.now) 0 c.args.class ≡ entry_open c.args.entries.now c.args.tick c.args.class
 added c =
-    let h = adds c.args.entries.now c.loop-entry.entry-index c.loop-entry.left c.args.class (omega arith) c.if-left-ticks.false (sym c.if-not-is-open.ensures) in
+    let h = adds c.args.entries.now c.loop-entry.entry-index c.loop-entry.left c.args.class (omega arith) c.if-left-ticks.false (sym c.if-not-is_open.ensures) in
     let i = c.loop-entry.invariant in
     omega arith
 
-pub overflow-add-open : goal.overflow-add-open
-overflow-add-open c = omega (arith, added c, open_most c.args.entries.now c.args.tick c.args.class)
+pub overflow_add-open : goal.overflow_add-open
+overflow_add-open c = omega (arith, added c, open_most c.args.entries.now c.args.tick c.args.class)
 
 pub loop-entry-preserved : goal.loop-entry-preserved
 loop-entry-preserved c = added c

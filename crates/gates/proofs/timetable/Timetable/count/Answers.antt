@@ -7,7 +7,7 @@ pub returns-in-Some : goal.returns-in-Some
 unfolding octets
 returns-in-Some c =
     let t = c.args.self.now in
-    subst (λ (o : Option NextList). Counts (octets_with t.list t.base o) c.args.l c.args.class c.args.most c.open-across.result) (sym c.in-Some.is) c.open-across.ensures
+    subst (λ (o : Option NextList). Counts (octets_with t.list t.base o) c.args.l c.args.class c.args.most c.open_across.result) (sym c.in-Some.is) c.open_across.ensures
 
 pub returns-in-None : goal.returns-in-None
 unfolding octets

@@ -8,7 +8,7 @@ pub returns-in-Some : goal.returns-in-Some
 unfolding span_at
 returns-in-Some c =
     let t = c.args.self.now in
-    let is : c.span-across.result ≡ span_at t c.args.l = c.span-across.ensures ∙ sym (ap (λ (o : Option NextList). span_with t.list t.base o c.args.l) c.in-Some.is) in
+    let is : c.span_across.result ≡ span_at t c.args.l = c.span_across.ensures ∙ sym (ap (λ (o : Option NextList). span_with t.list t.base o c.args.l) c.in-Some.is) in
     record { is = is; stays = subst (Stays (octets t) c.args.l) (sym is) (timetable_stays t c.args.l) }
 
 pub returns-in-None : goal.returns-in-None

@@ -13,7 +13,7 @@ pub returns-then-l-hold : goal.returns-then-l-hold
 returns-then-l-hold c =
     let a = c.args.list.now in
     let n = c.args.next.now in
-    let hold = c.hold-from-hold.ensures in
+    let hold = c.hold_from-hold.ensures in
     ap (λ (e : GateEntry). record { octet = e.octet; ticks = n.from - c.args.l }) c.last.ensures
     ∙ sym (span_held (vec_items a.entries) a.cycle c.args.base (vec_items n.list.entries) n.list.cycle n.from c.args.l (omega arith) c.if-l-next.false)
 
@@ -21,7 +21,7 @@ pub returns : goal.returns
 returns c =
     let a = c.args.list.now in
     let n = c.args.next.now in
-    let hold = c.hold-from-hold.ensures in
+    let hold = c.hold_from-hold.ensures in
     let first = c.span-span.ensures in
     (λ i. record { octet = (first i).octet; ticks = (c.min.ensures ∙ (λ j. min (first j).ticks (hold j - c.args.l))) i })
     ∙ sym (span_first (vec_items a.entries) a.cycle c.args.base (vec_items n.list.entries) n.list.cycle n.from c.args.l (omega arith))

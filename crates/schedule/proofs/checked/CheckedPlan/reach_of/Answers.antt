@@ -1,5 +1,5 @@
-use Rattle.std.proofs.Common.{◌≡◌, ℕ, ◌+◌, ◌-◌, ◌*◌, ◌<◌, ◌≤◌, sym, refl, ap, ◌∙◌, arith, rules}
-use Rattle.schedule.specs.Plan.{flow_count, hop_count, release_of, early_at, late_at}
+use Rattle.std.proofs.Common.{◌+◌, ◌-◌, ◌<◌, ◌≤◌, arith}
+use Rattle.schedule.specs.Plan.{flow_count, hop_count, release_of}
 use Rattle.schedule.specs.Rules.{FlowKeeps}
 use Rattle.schedule.specs.Checks.{checked_plan}
 use Rattle.schedule.proofs.Props.{good_from}
@@ -20,8 +20,8 @@ module _ (c : goal.After-early) where
   early : release_of (checked_plan c.args.self.now) c.args.flow + c.args.self.now.draft.error ≤ c.early.result
   early = omega (arith, early_past (checked_plan c.args.self.now) c.args.flow keeps c.args.hop (omega (arith, hop_in)), c.early.ensures.is)
 
-pub overflow-sub-earliest : goal.overflow-sub-earliest
-overflow-sub-earliest c = omega (arith, early (goal.at.overflow-sub-earliest c).After-early, c.error.ensures)
+pub overflow_sub-earliest : goal.overflow_sub-earliest
+overflow_sub-earliest c = omega (arith, early (goal.at.overflow_sub-earliest c).After-early, c.error.ensures)
 
 pub returns : goal.returns
 returns c =

@@ -1,6 +1,6 @@
-use Rattle.std.proofs.Common.{◌≡◌, ℕ, ◌+◌, ◌-◌, ◌*◌, ◌<◌, ◌≤◌, vec_items, sym, refl, ap, ◌∙◌, arith, rules}
+use Rattle.std.proofs.Common.{◌≡◌, ◌+◌, ◌-◌, ◌<◌, ◌≤◌, ap, ◌∙◌, arith}
 use Rattle.schedule.specs.declared.tables.Flow.{Flow}
-use Rattle.schedule.specs.Plan.{flow_count, hop_count, release_of, deadline_of, early_at, late_at}
+use Rattle.schedule.specs.Plan.{flow_count, hop_count, release_of, early_at, late_at}
 use Rattle.schedule.specs.Rules.{FlowKeeps}
 use Rattle.schedule.specs.Checks.{checked_plan}
 use Rattle.schedule.proofs.Props.{good_from}
@@ -27,15 +27,15 @@ module _ (c : goal.After-flow-release) where
   early : release_of (checked_plan c.args.self.now) c.args.flow + c.args.self.now.draft.error ≤ early_at (checked_plan c.args.self.now) c.args.flow c.flow-release.result.hops
   early = early_past (checked_plan c.args.self.now) c.args.flow keeps c.flow-release.result.hops (omega (arith, hops_is))
 
-pub overflow-sub-earliest : goal.overflow-sub-earliest
-overflow-sub-earliest c = omega (arith, early (goal.at.overflow-sub-earliest c).After-flow-release, c.early.ensures.is, c.error.ensures)
+pub overflow_sub-earliest : goal.overflow_sub-earliest
+overflow_sub-earliest c = omega (arith, early (goal.at.overflow_sub-earliest c).After-flow-release, c.early.ensures.is, c.error.ensures)
 
-pub overflow-sub-result : goal.overflow-sub-result
-overflow-sub-result c = let d = (goal.at.overflow-sub-result c).After-flow-release in omega (arith, early d, release_is d, c.early.ensures.is, c.error.ensures)
+pub overflow_sub-result : goal.overflow_sub-result
+overflow_sub-result c = let d = (goal.at.overflow_sub-result c).After-flow-release in omega (arith, early d, release_is d, c.early.ensures.is, c.error.ensures)
 
-pub overflow-sub-result-2 : goal.overflow-sub-result-2
-overflow-sub-result-2 c =
-    let d = (goal.at.overflow-sub-result-2 c).After-flow-release in
+pub overflow_sub-result-2 : goal.overflow_sub-result-2
+overflow_sub-result-2 c =
+    let d = (goal.at.overflow_sub-result-2 c).After-flow-release in
     let past = late_past (checked_plan c.args.self.now) c.args.flow (keeps d) c.flow-release.result.hops (omega (arith, hops_is d)) in
     omega (arith, release_is d, c.late-latest.ensures.is)
 

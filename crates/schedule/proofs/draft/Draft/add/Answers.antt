@@ -1,24 +1,24 @@
-use Rattle.std.proofs.Common.{◌≡◌, ℕ, ◌<◌, ◌≤◌, true, List, [], ◌∷◌, ◌++◌, length, get_or, vec_items, vec_len, vec_capacity, sym, refl, ap, ◌∙◌, arith, rules}
+use Rattle.std.proofs.Common.{ℕ, ◌<◌, ◌≤◌, [], ◌∷◌, ◌++◌, length, vec_items, vec_len, vec_capacity, sym, ap, ◌∙◌, arith}
 use Rattle.schedule.specs.declared.tables.Flow.{Flow}
 use Rattle.schedule.specs.Limits.{route_allowed}
 use Rattle.schedule.proofs.Adding.{spaced_length, spaced_below, routed_most, held_after_add}
 use Rattle.schedule.proofs.draft.Draft.add.Goals as goal
 
-pub push-windows-requires : goal.push-windows-requires
-push-windows-requires c =
+pub push_windows-requires : goal.push_windows-requires
+push_windows-requires c =
     let d = c.args.self.now in
     let route = c.args.request.route.now in
     let offsets = c.args.offsets.now in
-    let spaced = sym c.if-not-are-offsets-allowed.ensures in
-    let most = routed_most c.len-2.result route (sym c.if-not-is-route-allowed.ensures) in
+    let spaced = sym c.if-not-are_offsets_allowed.ensures in
+    let most = routed_most c.len-2.result route (sym c.if-not-is_route_allowed.ensures) in
     record {
       same_length = spaced_length d.cycle route offsets spaced;
       room = omega (arith, d.tables, d.reserved, d.windows.ok.0, d.flows.ok.0, c.len.ensures);
       fits = λ i h. let lt = spaced_below d.cycle route offsets spaced i h in let m = d.timing.1 in omega arith;
     }
 
-pub invariant-of-self : goal.invariant-of-self
-invariant-of-self c =
+pub invariant_of-self : goal.invariant_of-self
+invariant_of-self c =
     let d = c.args.self.now in
     let r = c.args.request in
     let route = r.route.now in
@@ -26,15 +26,25 @@ invariant-of-self c =
     let fs = vec_items d.flows in
     let ws = vec_items d.windows in
     let n = vec_len d.ports in
-    let allowed = sym c.if-not-is-flow-allowed.ensures in
-    let routed = ap (λ n. route_allowed n route) (sym c.len-2.ensures) ∙ sym c.if-not-is-route-allowed.ensures in
-    let spaced = sym c.if-not-are-offsets-allowed.ensures in
+    let allowed = sym c.if-not-is_flow_allowed.ensures in
+    let routed = ap (λ n. route_allowed n route) (sym c.len-2.ensures) ∙ sym c.if-not-is_route_allowed.ensures in
+    let spaced = sym c.if-not-are_offsets_allowed.ensures in
     let few : length (vec_items d.flows) < 16 = omega (arith, d.flows.ok.0, c.len.ensures) in
     let first = c.len-3.ensures ∙ d.windows.ok.0 in
     let flow : ℕ → Flow = λ i. record { release = r.release; octets = r.octets; deadline = r.deadline; first = i; hops = length route } in
-    let is_fs = c.push-reserved.ensures.items ∙ ap (λ i. fs ++ flow i ∷ []) first in
-    let is_ws = c.push-windows.ensures.items in
+    let is_fs = c.push_reserved.ensures.items ∙ ap (λ i. fs ++ flow i ∷ []) first in
+    let is_ws = c.push_windows.ensures.items in
     let held = held_after_add d.cycle n fs ws d.tables d.allowed d.stretches d.placed d.routes few r.release r.octets r.deadline route offsets allowed routed spaced
-    (vec_items c.push-reserved.new.self) (vec_items c.push-windows.new.windows) is_fs is_ws in
-    let room : (16 ≤ vec_capacity c.push-reserved.new.self) × (96 ≤ vec_capacity c.push-windows.new.windows) = (omega (arith, d.reserved, c.push-reserved.ensures.capacity), omega (arith, d.reserved, c.push-windows.ensures.capacity)) in
-    (d.timing, (d.counted, (d.delayed, (held.0, (held.1, (held.2, (held.3, (held.4, (room, tt)))))))))
+    (vec_items c.push_reserved.new.self) (vec_items c.push_windows.new.windows) is_fs is_ws in
+    let room : (16 ≤ vec_capacity c.push_reserved.new.self) × (96 ≤ vec_capacity c.push_windows.new.windows) = (omega (arith, d.reserved, c.push_reserved.ensures.capacity), omega (arith, d.reserved, c.push_windows.ensures.capacity)) in
+    record {
+      timing = d.timing;
+      counted = d.counted;
+      delayed = d.delayed;
+      tables = held.0;
+      allowed = held.1;
+      stretches = held.2;
+      placed = held.3;
+      routes = held.4;
+      reserved = room;
+    }

@@ -1,4 +1,4 @@
 use Rattle.schedule.proofs.draft.Draft.check.Goals as goal
 
-pub invariant-of-result : goal.invariant-of-result
-invariant-of-result c = (∣ c.in-None.ensures ∣₁, tt)
+pub invariant_of-result : goal.invariant_of-result
+invariant_of-result c = record { good = ∣ c.in-None.ensures ∣₁ }

@@ -1,8 +1,8 @@
-use Rattle.std.proofs.Common.{◌≡◌, ◌+◌, ◌<◌, ◌≤◌, length, get_or, vec_items, vec_len, sym, ap, ◌∙◌, arith, rules}
+use Rattle.std.proofs.Common.{◌≡◌, ◌+◌, ◌≤◌, get_or, vec_items, vec_len, ap, ◌∙◌, arith, rules}
 use Rattle.std.proofs.lemmas.List.{get_or_read_under}
 use Rattle.schedule.specs.declared.tables.Port.{Port}
 use Rattle.schedule.specs.declared.tables.Window.{Window}
-use Rattle.schedule.specs.Plan.{no_port, window_at, delay_of}
+use Rattle.schedule.specs.Plan.{no_port, delay_of}
 use Rattle.schedule.specs.Drafts.{plan_of}
 use Rattle.schedule.proofs.draft.Draft.crossed.Goals.{After-index}
 use Rattle.schedule.proofs.draft.Draft.crossed.Goals as goal
@@ -20,8 +20,8 @@ delay_most c =
     let m = d.delayed c.window-window.result.port (omega (arith, c.window-window.ensures.port, d.ports.ok.0)) in
     omega arith
 
-pub overflow-add-result-2 : goal.overflow-add-result-2
-overflow-add-result-2 c = let m = delay_most c in search rules
+pub overflow_add-result-2 : goal.overflow_add-result-2
+overflow_add-result-2 c = let m = delay_most c in search rules
 
 pub returns : goal.returns
 returns c =

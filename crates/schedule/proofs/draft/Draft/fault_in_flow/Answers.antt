@@ -1,6 +1,5 @@
-use Rattle.std.proofs.Common.{◌≡◌, ℕ, ◌<◌, sym, refl, ap, ◌∙◌, subst, arith, rules, below_more}
+use Rattle.std.proofs.Common.{ℕ, ◌<◌, sym, ap, subst, arith, below_more}
 use Rattle.schedule.specs.declared.tables.Flow.{Flow}
-use Rattle.schedule.specs.Plan.{hop_count}
 use Rattle.schedule.specs.Rules.{KeepsRules}
 use Rattle.schedule.specs.Drafts.{plan_of}
 use Rattle.schedule.proofs.draft.Draft.fault_in_flow.Goals as goal
@@ -14,7 +13,7 @@ returns-in-Some c =
     record { flow_is = ap (λ (x : ℕ × ℕ). x.0) told.0; hop_in = omega arith; broken = told.1; before = subst (λ n. (h : ℕ) → h < n → KeepsRules P c.args.flow h) (sym at) c.loop-hop.invariant }
 
 pub loop-hop-preserved : goal.loop-hop-preserved
-loop-hop-preserved c = below_more (KeepsRules (plan_of c.args.self.now) c.args.flow) c.loop-hop.hop c.loop-hop.invariant c.in-default.ensures
+loop-hop-preserved c = below_more (KeepsRules (plan_of c.args.self.now) c.args.flow) c.loop-hop.hop c.loop-hop.invariant c.in_default.ensures
 
 pub returns : goal.returns
 returns c =

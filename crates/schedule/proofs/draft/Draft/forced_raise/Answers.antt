@@ -12,14 +12,14 @@ returns-in-OffsetTooEarly c = forced_guard (plan_of c.args.self.now) c.args.faul
 pub returns-in-ReachTooLate : goal.returns-in-ReachTooLate
 returns-in-ReachTooLate c =
     let P = plan_of c.args.self.now in
-    subst (MustRise P (fault_place c.args.fault).0 c.in-ReachTooLate.hop) (sym c.least-reached.ensures)
+    subst (MustRise P (fault_place c.args.fault).0 c.in-ReachTooLate.hop) (sym c.least_reached.ensures)
     (forced_reach P c.args.fault c.in-ReachTooLate.flow c.in-ReachTooLate.hop c.requires.has c.requires.broken c.in-ReachTooLate.is)
 
-pub returns-in-ok-other : goal.returns-in-ok-other
-returns-in-ok-other c =
+pub returns-in_ok-other-in-WindowsTooClose : goal.returns-in_ok-other-in-WindowsTooClose
+returns-in_ok-other-in-WindowsTooClose c =
     let P = plan_of c.args.self.now in
     let flow = ap (λ (x : Fault). (fault_place x).0) c.in-WindowsTooClose.is in
-    subst (λ f. MatchOption c.raise-past.result (Hopeless P f) (λ x. MustRise P f x.hop x.to)) (sym flow) c.raise-past.ensures
+    subst (λ f. MatchOption c.raise_past.result (Hopeless P f) (λ x. MustRise P f x.hop x.to)) (sym flow) c.raise_past.ensures
 
 pub returns-in-EndTooLate : goal.returns-in-EndTooLate
 returns-in-EndTooLate c = forced_end (plan_of c.args.self.now) c.args.fault c.in-EndTooLate.flow c.in-EndTooLate.hop c.requires.has c.requires.broken c.in-EndTooLate.is

@@ -13,7 +13,7 @@ use Rattle.schedule.specs.Raising.{cut_back, Raises, Behind, TablesKeep, KeepsLe
 use Rattle.schedule.proofs.Adding.{routed_least, routed_most}
 use Rattle.schedule.proofs.Lowest.{lowest, lowest_zero, lowest_length, routed, place_passes, refused_by_limits}
 use Rattle.schedule.proofs.Placed.{all_behind, old_again, none_fit, placed}
-use Rattle.schedule.proofs.draft.Draft.keep_least.Goals.{In-ok-flow, After-raise-offsets}
+use Rattle.schedule.proofs.draft.Draft.keep_least.Goals.{In_ok-flow, After-raise_offsets}
 use Rattle.schedule.proofs.draft.Draft.keep_least.Goals as goal
 
 -- a reply is one of the two
@@ -23,16 +23,16 @@ either : (d : Draft) (release octets deadline : ℕ) (route : List ℕ) (kept : 
 either d release octets deadline route true after passes fits none = (passes, fits refl)
 either d release octets deadline route false after passes fits none = (passes, (none refl).0, (none refl).1)
 
-pub returns-in-err-flow : goal.returns-in-err-flow
-returns-in-err-flow c =
+pub returns-in_err-flow : goal.returns-in_err-flow
+returns-in_err-flow c =
     let d = c.args.self.now in
     let r = c.args.request in
-    let told = c.in-err-flow.ensures in
-    let (e, is, same) = err_from_is_err_and c.from-residual.result c.from-residual.ensures.1 in
+    let told = c.in_err-flow.ensures in
+    let (e, is, same) = err_from_is_err_and c.from_residual.result c.from_residual.ensures.1 in
     subst (λ x. KeepsLeast d r.release r.octets r.deadline r.route.now x c.add.new.self) (sym is)
     (refused_by_limits (plan_of d) r.release r.octets r.deadline r.route.now c.min-hops.result (omega (arith, d.timing)) c.min-hops.ensures (flow_number e) (told.0 ∙ ap (λ (x : FlowRefusal). Some (flow_number x)) (sym same)), told.1)
 
-module _ (c : goal.In-ok-flow) where
+module _ (c : goal.In_ok-flow) where
   abbrev P : Plan
   P = plan_of c.args.self.now
 
@@ -49,78 +49,78 @@ module _ (c : goal.In-ok-flow) where
   tried = with_flow P c.args.request.release c.args.request.octets c.args.request.deadline route zeros
 
   is_tried : plan_of c.add.new.self ≡ tried
-  is_tried = c.in-ok-flow.ensures.2
+  is_tried = c.in_ok-flow.ensures.2
 
-  is_last : c.in-ok-flow.flow ≡ flow_count P
-  is_last = c.in-ok-flow.ensures.1
+  is_last : c.in_ok-flow.flow ≡ flow_count P
+  is_last = c.in_ok-flow.ensures.1
 
   hops_some : 1 ≤ length route
-  hops_some = routed_least (length P.ports) route (routed P c.args.request.release c.args.request.octets c.args.request.deadline route c.min-hops.result c.in-ok-flow.ensures.0)
+  hops_some = routed_least (length P.ports) route (routed P c.args.request.release c.args.request.octets c.args.request.deadline route c.min-hops.result c.in_ok-flow.ensures.0)
 
   zeros_length : length zeros ≡ length route
   zeros_length =
       lowest_length route c.min-hops.result
-      (routed_most (length P.ports) route (routed P c.args.request.release c.args.request.octets c.args.request.deadline route c.min-hops.result c.in-ok-flow.ensures.0))
+      (routed_most (length P.ports) route (routed P c.args.request.release c.args.request.octets c.args.request.deadline route c.min-hops.result c.in_ok-flow.ensures.0))
       c.min-hops.ensures
 
-pub raise-offsets-requires : goal.raise-offsets-requires
-raise-offsets-requires c =
-    let before = (goal.at.raise-offsets-requires c).In-ok-flow in
+pub raise_offsets-requires : goal.raise_offsets-requires
+raise_offsets-requires c =
+    let before = (goal.at.raise_offsets-requires c).In_ok-flow in
     let r = c.args.request in
     let f = is_last before in
     let e = is_tried before in
     let many = ap flow_count e in
     record {
       present = omega (arith, length_push (vec_items c.args.self.now.flows) (new before));
-      behind = subst (λ (p : Plan). Behind p c.in-ok-flow.flow) (sym e) (subst (Behind (tried before)) (sym f) (all_behind (P before) c.args.self.now.stretches r.release r.octets r.deadline (route before) (zeros before)));
+      behind = subst (λ (p : Plan). Behind p c.in_ok-flow.flow) (sym e) (subst (Behind (tried before)) (sym f) (all_behind (P before) c.args.self.now.stretches r.release r.octets r.deadline (route before) (zeros before)));
     }
 
-module _ (c : goal.After-raise-offsets) where
-  abbrev before : goal.In-ok-flow
-  before = (goal.at.After-raise-offsets c).In-ok-flow
+module _ (c : goal.After-raise_offsets) where
+  abbrev before : goal.In_ok-flow
+  before = (goal.at.After-raise_offsets c).In_ok-flow
 
   abbrev d : Draft
   d = c.args.self.now
 
   abbrev after : Draft
-  after = c.raise-offsets.new.self
+  after = c.raise_offsets.new.self
 
-  raised : Raises (tried before) (flow_count (P before)) c.raise-offsets.result (plan_of after)
+  raised : Raises (tried before) (flow_count (P before)) c.raise_offsets.result (plan_of after)
   raised =
-      subst (λ f. Raises (tried before) f c.raise-offsets.result (plan_of after)) (is_last before)
-      (subst (λ (p : Plan). Raises p c.in-ok-flow.flow c.raise-offsets.result (plan_of after)) (is_tried before) c.raise-offsets.ensures)
+      subst (λ f. Raises (tried before) f c.raise_offsets.result (plan_of after)) (is_last before)
+      (subst (λ (p : Plan). Raises p c.in_ok-flow.flow c.raise_offsets.result (plan_of after)) (is_tried before) c.raise_offsets.ensures)
 
   windows_is : c.len-windows.result ≡ length (vec_items d.windows)
   windows_is = c.len-windows.ensures ∙ d.windows.ok.0
 
-  restored : cut_back (plan_of after) c.in-ok-flow.flow c.len-windows.result ≡ P before
+  restored : cut_back (plan_of after) c.in_ok-flow.flow c.len-windows.result ≡ P before
   restored =
       let r = c.args.request in
       (λ i. cut_back (plan_of after) (is_last before i) (windows_is i))
-      ∙ old_again (P before) d.stretches r.release r.octets r.deadline (route before) (hops_some before) (zeros before) (zeros_length before) (lowest_zero c.min-hops.result) c.raise-offsets.result (plan_of after) raised
+      ∙ old_again (P before) d.stretches r.release r.octets r.deadline (route before) (hops_some before) (zeros before) (zeros_length before) (lowest_zero c.min-hops.result) c.raise_offsets.result (plan_of after) raised
 
-  restorable : TablesKeep after.cycle (vec_len after.ports) (take c.in-ok-flow.flow (vec_items after.flows)) (take c.len-windows.result (vec_items after.windows))
+  restorable : TablesKeep after.cycle (vec_len after.ports) (take c.in_ok-flow.flow (vec_items after.flows)) (take c.len-windows.result (vec_items after.windows))
   restorable =
       let e = restored in
       let n = after.ports.ok.0 ∙ ap (λ (p : Plan). length p.ports) e ∙ sym d.ports.ok.0 in
-      subst (λ m. TablesKeep after.cycle m (take c.in-ok-flow.flow (vec_items after.flows)) (take c.len-windows.result (vec_items after.windows))) (sym n)
+      subst (λ m. TablesKeep after.cycle m (take c.in_ok-flow.flow (vec_items after.flows)) (take c.len-windows.result (vec_items after.windows))) (sym n)
       (subst (λ (p : Plan). TablesKeep p.cycle (vec_len d.ports) p.flows p.windows) (sym e) (d.tables, d.allowed, d.stretches, d.placed, d.routes))
 
 pub drop-trial-requires : goal.drop-trial-requires
-drop-trial-requires c = restorable (goal.at.drop-trial-requires c).After-raise-offsets
+drop-trial-requires c = restorable (goal.at.drop-trial-requires c).After-raise_offsets
 
 pub returns : goal.returns
 returns c =
-    let known = (goal.at.returns c).After-raise-offsets in
+    let known = (goal.at.returns c).After-raise_offsets in
     let r = c.args.request in
     let p = P (before known) in
-    either (d known) r.release r.octets r.deadline (route (before known)) c.raise-offsets.result _
-    (place_passes p r.release r.octets r.deadline (route (before known)) c.min-hops.result c.in-ok-flow.ensures.0)
+    either (d known) r.release r.octets r.deadline (route (before known)) c.raise_offsets.result _
+    (place_passes p r.release r.octets r.deadline (route (before known)) c.min-hops.result c.in_ok-flow.ensures.0)
     (λ kept.
     let (os, least, is) =
-    placed p (d known).stretches r.release r.octets r.deadline (route (before known)) (hops_some (before known)) (zeros (before known)) (zeros_length (before known)) (lowest_zero c.min-hops.result) c.raise-offsets.result (plan_of (after known)) (raised known) kept in
+    placed p (d known).stretches r.release r.octets r.deadline (route (before known)) (hops_some (before known)) (zeros (before known)) (zeros_length (before known)) (lowest_zero c.min-hops.result) c.raise_offsets.result (plan_of (after known)) (raised known) kept in
     (os, least, c.drop-trial.ensures ∙ cond-true _ _ _ kept ∙ is))
     (λ lost. (
-      none_fit p (d known).stretches r.release r.octets r.deadline (route (before known)) (hops_some (before known)) (zeros (before known)) (zeros_length (before known)) (lowest_zero c.min-hops.result) c.raise-offsets.result (plan_of (after known)) (raised known) lost,
+      none_fit p (d known).stretches r.release r.octets r.deadline (route (before known)) (hops_some (before known)) (zeros (before known)) (zeros_length (before known)) (lowest_zero c.min-hops.result) c.raise_offsets.result (plan_of (after known)) (raised known) lost,
       c.drop-trial.ensures ∙ cond-false _ _ _ lost ∙ restored known,
     ))

@@ -9,10 +9,10 @@ use Rattle.schedule.proofs.draft.Draft.raise_past.Goals as goal
 abbrev offset_of : Window → ℕ
 offset_of w = w.offset
 
-pub returns-then-window-other-offset : goal.returns-then-window-other-offset
-returns-then-window-other-offset c =
+pub returns-then-window-other_offset : goal.returns-then-window-other_offset
+returns-then-window-other_offset c =
     let P = plan_of c.args.self.now in
-    let q = ap offset_of c.window-other-offset.ensures.is in
+    let q = ap offset_of c.window-other_offset.ensures.is in
     let o = ap offset_of c.window.ensures.is in
     subst (λ n. MustRise P c.args.flow c.args.hop (n + 1)) (sym q)
     (rise_behind P c.args.flow c.args.hop c.args.other c.args.place c.requires.has.1 c.requires.behind c.requires.close (omega arith))
@@ -20,14 +20,14 @@ returns-then-window-other-offset c =
 pub returns-then-hop-eq0 : goal.returns-then-hop-eq0
 returns-then-hop-eq0 c =
     let P = plan_of c.args.self.now in
-    let q = ap offset_of c.window-other-offset.ensures.is in
+    let q = ap offset_of c.window-other_offset.ensures.is in
     let o = ap offset_of c.window.ensures.is in
     hopeless_first P c.args.flow c.args.hop c.args.other c.args.place c.requires.has.1 c.requires.behind c.requires.close (omega arith) c.if-hop-eq0.true
 
 pub returns : goal.returns
 returns c =
     let P = plan_of c.args.self.now in
-    let q = ap offset_of c.window-other-offset.ensures.is in
+    let q = ap offset_of c.window-other_offset.ensures.is in
     let o = ap offset_of c.window.ensures.is in
     let p = ap offset_of c.window-2.ensures.is in
     let to : c.window-2.result.offset + (c.end.result + 2 * P.error - c.early.result) ≡ offset_at P c.args.flow (c.args.hop - 1) + (end_at P c.args.other c.args.place + 2 * P.error - early_at P c.args.flow c.args.hop) =

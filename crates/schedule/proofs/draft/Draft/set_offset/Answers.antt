@@ -15,19 +15,29 @@ first_read c = ap (λ (x : Flow). x.first) (get_or_read (vec_items c.args.self.n
 in_table : (c : goal.After-index) → c.index.result.now.first + c.args.hop < length (vec_items c.args.self.now.windows)
 in_table c = let e = first_read c in let s = (c.args.self.now.stretches c.args.flow c.requires.has.0).2 in omega (arith, c.requires.has.1)
 
-pub overflow-add-place : goal.overflow-add-place
-overflow-add-place c = let e = in_table c in search rules
+pub overflow_add-place : goal.overflow_add-place
+overflow_add-place c = let e = in_table c in search rules
 
-pub invariant-of-self : goal.invariant-of-self
-invariant-of-self c =
+pub invariant_of-self : goal.invariant_of-self
+invariant_of-self c =
     let d = c.args.self.now in
     let ws = vec_items d.windows in
     let i = c.index.result.now.first + c.args.hop in
-    let lt = in_table (goal.at.invariant-of-self c).After-index in
-    let at = get_or_read ws i c.index-mut.result.now lt c.index-mut.ensures.value no_window in
+    let lt = in_table (goal.at.invariant_of-self c).After-index in
+    let at = get_or_read ws i c.index_mut.result.now lt c.index_mut.ensures.value no_window in
     let is = ap (λ (w : Window). set ws i (record { port = w.port; offset = c.args.to })) at in
-    let held = held_after_move ws i c.args.to lt d.cycle (vec_len d.ports) (vec_items d.flows) (d.tables, d.allowed, d.stretches, d.placed, d.routes) c.requires.low (set ws i (record { port = c.index-mut.result.now.port; offset = c.args.to })) is in
-    (d.timing, (d.counted, (d.delayed, (held.0, (held.1, (held.2, (held.3, (held.4, (d.reserved, tt)))))))))
+    let held = held_after_move ws i c.args.to lt d.cycle (vec_len d.ports) (vec_items d.flows) (d.tables, d.allowed, d.stretches, d.placed, d.routes) c.requires.low (set ws i (record { port = c.index_mut.result.now.port; offset = c.args.to })) is in
+    record {
+      timing = d.timing;
+      counted = d.counted;
+      delayed = d.delayed;
+      tables = held.0;
+      allowed = held.1;
+      stretches = held.2;
+      placed = held.3;
+      routes = held.4;
+      reserved = d.reserved;
+    }
 
 pub returns : goal.returns
 returns c =
@@ -35,6 +45,6 @@ returns c =
     let ws = vec_items c.args.self.now.windows in
     let before = (goal.at.returns c).After-index in
     let i = c.index.result.now.first + c.args.hop in
-    let at = get_or_read ws i c.index-mut.result.now (in_table before) c.index-mut.ensures.value no_window in
+    let at = get_or_read ws i c.index_mut.result.now (in_table before) c.index_mut.ensures.value no_window in
     let is = ap (λ (w : Window). set ws i (record { port = w.port; offset = c.args.to })) at in
     ap (retimed P) (is ∙ ap (λ n. set_offset ws (n + c.args.hop) c.args.to) (first_read before))

@@ -1,8 +1,7 @@
-use Rattle.std.proofs.Common.{◌≡◌, vec_items, sym, ap, arith, lit≤}
+use Rattle.std.proofs.Common.{vec_items, sym, ap, arith, lit≤}
 use Rattle.std.proofs.lemmas.List.{get_or_past}
 use Rattle.schedule.specs.declared.tables.Flow.{Flow}
-use Rattle.schedule.specs.Plan.{no_flow, flow_at}
-use Rattle.schedule.specs.Drafts.{plan_of}
+use Rattle.schedule.specs.Plan.{no_flow}
 use Rattle.schedule.proofs.draft.Draft.span.Goals as goal
 
 pub returns-then-flow-len : goal.returns-then-flow-len

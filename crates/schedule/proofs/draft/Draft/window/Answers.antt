@@ -1,4 +1,4 @@
-use Rattle.std.proofs.Common.{◌≡◌, ◌+◌, ◌<◌, length, get_or, vec_items, vec_len, sym, ap, ◌∙◌, arith, rules}
+use Rattle.std.proofs.Common.{◌≡◌, ◌+◌, ◌<◌, length, get_or, vec_items, ap, ◌∙◌, arith, rules}
 use Rattle.std.proofs.lemmas.List.{get_or_read}
 use Rattle.schedule.specs.declared.tables.Flow.{Flow}
 use Rattle.schedule.specs.declared.tables.Window.{Window}
@@ -13,8 +13,8 @@ flow_read c = get_or_read (vec_items c.args.self.now.flows) c.args.flow c.index.
 first_read : (c : goal.After-index) → c.index.result.now.first ≡ (get_or (vec_items c.args.self.now.flows) c.args.flow no_flow).first
 first_read c = ap (λ (x : Flow). x.first) (flow_read c)
 
-pub overflow-add-index : goal.overflow-add-index
-overflow-add-index c = let e = first_read c in let s = (c.args.self.now.stretches c.args.flow c.requires.0).2 in search rules
+pub overflow_add-index : goal.overflow_add-index
+overflow_add-index c = let e = first_read c in let s = (c.args.self.now.stretches c.args.flow c.requires.0).2 in search rules
 
 pub index-requires-2 : goal.index-requires-2
 index-requires-2 c = let e = first_read c in let s = (c.args.self.now.stretches c.args.flow c.requires.0).2 in omega (arith, c.requires.1, c.args.self.now.windows.ok.0)

@@ -1,4 +1,4 @@
-use Rattle.std.proofs.Common.{◌≡◌, ◌+◌, ◌^◌, ◌<◌, [], ◌∷◌, ◌++◌, length, get_or, take, vec_items, sym, ap, ◌∙◌, append_assoc, arith, rules}
+use Rattle.std.proofs.Common.{◌^◌, ◌<◌, [], ◌∷◌, ◌++◌, get_or, take, vec_items, sym, ap, ◌∙◌, append_assoc, arith, rules}
 use Rattle.std.proofs.lemmas.List.{take_more, take_all}
 use Rattle.schedule.specs.declared.tables.Window.{Window}
 use Rattle.schedule.specs.Plan.{no_window}
@@ -6,8 +6,8 @@ use Rattle.schedule.specs.Drafts.{windows_along}
 use Rattle.schedule.proofs.Along.{along_length, along_at}
 use Rattle.schedule.proofs.draft.add.push_windows.Goals as goal
 
-pub overflow-cast-window : goal.overflow-cast-window
-overflow-cast-window c = let h : get_or c.args.offsets.now c.loop-hop.hop 0 < 2 ^ 32 = c.requires.fits c.loop-hop.hop (omega arith) in search rules
+pub overflow_cast-window : goal.overflow_cast-window
+overflow_cast-window c = let h : get_or c.args.offsets.now c.loop-hop.hop 0 < 2 ^ 32 = c.requires.fits c.loop-hop.hop (omega arith) in search rules
 
 pub loop-hop-preserved : goal.loop-hop-preserved
 loop-hop-preserved c =
@@ -19,10 +19,10 @@ loop-hop-preserved c =
     let front = take c.loop-hop.hop (windows_along ps os) in
     let more = take_more (windows_along ps os) c.loop-hop.hop no_window (omega arith) in
     let at = along_at ps os c.requires.same_length c.loop-hop.hop (omega arith) in (
-      c.push-reserved.ensures.items ∙ ap (λ l. l ++ w ∷ []) c.loop-hop.invariant.0 ∙ append_assoc was front (w ∷ [])
+      c.push_reserved.ensures.items ∙ ap (λ l. l ++ w ∷ []) c.loop-hop.invariant.0 ∙ append_assoc was front (w ∷ [])
           ∙ ap (λ (x : Window). was ++ (front ++ x ∷ [])) (sym at) ∙ ap (λ l. was ++ l) (sym more),
-      omega (arith, c.push-reserved.ensures.len),
-      c.push-reserved.ensures.capacity ∙ c.loop-hop.invariant.2,
+      omega (arith, c.push_reserved.ensures.len),
+      c.push_reserved.ensures.capacity ∙ c.loop-hop.invariant.2,
     )
 
 pub returns : goal.returns

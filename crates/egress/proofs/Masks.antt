@@ -1,0 +1,18 @@
+-- Class 7 is held back by no selection.
+use Rattle.std.proofs.Common.{◌≡◌, ℕ, ◌<◌, Some, None, Option, refl, ap, arith}
+use Rattle.egress.specs.Mask.{In, Within, Picks, SparesSeven}
+use Rattle.egress.specs.Masks.{by_class, in_below}
+
+-- class 7 alone is available: any selection replies it
+only_seven : (c : ℕ) → c < 8 → In c 128 → c ≡ 7
+only_seven = by_class (λ c. In c 128 → c ≡ 7) (λ h. omega arith) (λ h. omega arith) (λ h. omega arith) (λ h. omega arith) (λ h. omega arith) (λ h. omega arith) (λ h. omega arith) (λ h. refl)
+
+not_held : (may h : ℕ) → SparesSeven may → Within h may → In 7 h → ⊥
+not_held may h s w p = let q = w.among 7 p in let l = in_below 7 may 7 s q in omega arith
+
+replied : (h : ℕ) (pick : ℕ → Option ℕ) → Picks h pick → (In 7 h → ⊥) → (o : Option ℕ) → pick 128 ≡ o → o ≡ Some 7
+replied h pick p n None e = absurd (n (p.none 128 (omega arith) e 7 refl))
+replied h pick p n (Some c) e = let t = p.class 128 c (omega arith) e in ap Some (only_seven c t.0 t.1)
+
+pub seven_goes : (may h : ℕ) (pick : ℕ → Option ℕ) → SparesSeven may → Within h may → Picks h pick → pick 128 ≡ Some 7
+seven_goes may h pick s w p = replied h pick p (not_held may h s w) (pick 128) refl
