@@ -1,4 +1,5 @@
 // The calls of a scenario done one at a time, with their replies.
 #![tactic(auto)]
+
 pub mod reply;
 pub mod session;

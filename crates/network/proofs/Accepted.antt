@@ -1,8 +1,7 @@
 -- An accepted offer, scheduled or ordinary, keeps the invariant.
-use Rattle.std.proofs.Common.{◌≡◌, ℕ, zero, suc, ◌+◌, ◌-◌, ◌*◌, ◌/◌, ◌%◌, ◌^◌, ◌<◌, ◌≤◌, Bool, true, false, cond, not, ◌&&◌, ◌||◌, eqb, ltb, leb, ◌⊎◌, List, [], ◌∷◌, ◌++◌, map, get_or, take, Some, None, Option, sym, refl, ap, ◌∙◌, subst, inl, inr, div-add-mod', arith}
-use Rattle.std.specs.List.{AllByRecursion as All}
-use Rattle.std.proofs.lemmas.Bool.{and_parts, not-true, cases_order, cases_Bool, cases_lt, cases_eq, leb-true, leb-false, ltb-true, eqb-true, eqb-false, le-leb, lt-leb, eq-eqb, ne_eqb, both_ways, true≢false, false≢true}
-use Rattle.schedule.specs.Plan.{Plan, flow_count, hop_count, release_of, port_at, offset_at, wire_of, early_at}
+use Rattle.std.proofs.Common.{◌≡◌, ℕ, zero, suc, ◌+◌, ◌-◌, ◌*◌, ◌/◌, ◌%◌, ◌<◌, ◌≤◌, Bool, true, false, not, eqb, ltb, List, [], ◌∷◌, ◌++◌, map, get_or, take, None, Option, sym, refl, ap, ◌∙◌, subst, inl, inr, div-add-mod', arith}
+use Rattle.std.proofs.lemmas.Bool.{and_parts, not-true, cases_order, cases_eq, leb-false, ltb-true, eqb-true, eq-eqb, ne_eqb, both_ways}
+use Rattle.schedule.specs.Plan.{Plan, flow_count, hop_count, release_of, port_at, offset_at, early_at}
 use Rattle.schedule.specs.Limits.{unless}
 use Rattle.gates.specs.Timetable.{Transition, steady, pending, replaced, hold_from}
 use Rattle.egress.specs.declared.ordinary.Frame.{Frame}
@@ -11,15 +10,15 @@ use Rattle.network.specs.declared.flight.Flight.TheVariants.{Idle, Waiting, Movi
 use Rattle.network.specs.Windows.{cycle_begin}
 use Rattle.network.specs.Lawful.{ClocksNear}
 use Rattle.network.specs.Flows.{released_at}
-use Rattle.network.specs.Ports.{Port, at_place, joined_by, with_frame}
+use Rattle.network.specs.Ports.{at_place, joined_by, with_frame}
 use Rattle.network.specs.Calls.{held_at, is_release, offer_refused}
 use Rattle.network.specs.Functions.{Core, put, offered}
-use Rattle.network.specs.Guarantee.{NotYet, First, OnTime, due}
+use Rattle.network.specs.Guarantee.{due}
 use Rattle.network.proofs.Turns.{turns}
 use Rattle.network.proofs.Facts.{Facts, Counts, crossed_lt}
-use Rattle.network.proofs.Inv.{Waits, Moves, FlightOk, WaitsAt, LineOk, WireOk, Short, Inv}
+use Rattle.network.proofs.Inv.{Waits, FlightOk, WaitsAt, LineOk, WireOk, Short, Inv}
 use Rattle.network.proofs.Starts.{not_late}
-use Rattle.network.proofs.Keeps.{one_waits, at_place_all}
+use Rattle.network.proofs.Keeps.{one_waits}
 
 -- what holds at the place that is put, and at each other, holds of all
 pub put_all : {X : Type 0} (Q : ℕ → X → Type 0) (k : ℕ) (x : X) (fn : ℕ → X) → Q k x → ((j : ℕ) → (j ≡ k → ⊥) → Q j (fn j)) → (j : ℕ) → Q j (put k x fn j)

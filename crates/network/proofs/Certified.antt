@@ -1,5 +1,5 @@
 -- A certificate, from the last hop.
-use Rattle.std.proofs.Common.{◌≡◌, ℕ, zero, suc, ◌+◌, ◌-◌, ◌*◌, ◌<◌, ◌≤◌, sym, refl, ap, ◌∙◌, inl, inr, arith}
+use Rattle.std.proofs.Common.{◌≡◌, ℕ, zero, suc, ◌+◌, ◌-◌, ◌<◌, ◌≤◌, sym, ap, inl, inr, arith}
 use Rattle.std.proofs.lemmas.Bool.{cases_eq}
 use Rattle.schedule.specs.Plan.{Plan, flow_count, hop_count, release_of, offset_at, crossed_at, early_at, late_at, certificate_of}
 use Rattle.network.specs.Lawful.{Fit}

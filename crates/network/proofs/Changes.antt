@@ -1,21 +1,21 @@
 -- An accepted change, the tick at which it comes, and settling keep the invariant; and so every run does.
-use Rattle.std.proofs.Common.{◌≡◌, ℕ, zero, suc, ◌+◌, ◌-◌, ◌*◌, ◌/◌, ◌%◌, ◌^◌, ◌<◌, ◌≤◌, Bool, true, false, cond, not, ◌&&◌, ◌||◌, eqb, ltb, leb, ◌⊎◌, List, [], ◌∷◌, ◌++◌, map, get_or, replicate, Some, None, Option, sym, refl, ap, ◌∙◌, subst, inl, inr, add-zero, add-suc, arith}
+use Rattle.std.proofs.Common.{◌≡◌, ℕ, zero, suc, ◌+◌, ◌-◌, ◌*◌, ◌%◌, ◌^◌, ◌<◌, ◌≤◌, Bool, true, false, cond, ◌&&◌, eqb, ltb, leb, List, [], ◌∷◌, get_or, replicate, Some, None, Option, sym, refl, ap, ◌∙◌, subst, inl, inr, add-zero, arith}
 use Rattle.std.specs.List.{AllByRecursion as All}
-use Rattle.std.proofs.lemmas.Bool.{and_parts, cases_Bool, cases_lt, cases_eq, leb-true, eqb-true, eq-eqb, ne_eqb, true≢false, false≢true}
-use Rattle.schedule.specs.Plan.{Plan, flow_count, hop_count, port_at, offset_at, wire_of, delay_of, crossed_at}
+use Rattle.std.proofs.lemmas.Bool.{and_parts, cases_Bool, cases_lt, cases_eq, leb-true, eqb-true, eq-eqb, ne_eqb, false≢true}
+use Rattle.schedule.specs.Plan.{Plan, flow_count, port_at, offset_at, delay_of}
 use Rattle.schedule.specs.Limits.{unless, within}
 use Rattle.gates.specs.Timetable.{Transition, steady, pending, replaced, hold_from, timetable, each}
 use Rattle.egress.specs.declared.ordinary.Frame.{Frame}
 use Rattle.network.specs.declared.flight.Flight.{Flight}
 use Rattle.network.specs.declared.flight.Flight.TheVariants.{Idle, Waiting, Moving}
-use Rattle.network.specs.Windows.{cycle_begin, OccursIn, Occurs, Busy}
+use Rattle.network.specs.Windows.{cycle_begin, Occurs}
 use Rattle.network.specs.Lawful.{Fit, ClocksNear, Meaning, Lawful, port_count}
 use Rattle.network.specs.Calls.{Network, Call, offer, queue, read_record, read_wire, advance, change, settle, frame_allowed, queue_refused, advance_refused, change_tick, same_links, change_refused, settle_refused, in_order, switched, tick, ticks, refusal, done, after, run}
 use Rattle.network.specs.Functions.{Core, ticked, offered, afresh, functions, new}
-use Rattle.network.specs.Guarantee.{NotYet, First, BringsFit, AllFit}
+use Rattle.network.specs.Guarantee.{First, BringsFit, AllFit}
 use Rattle.network.proofs.Turns.{rules}
-use Rattle.network.proofs.Facts.{Facts, Counts, Sound, facts, crossed_lt, hold_le, hold_after, old_ends, new_begins}
-use Rattle.network.proofs.Inv.{Waits, Moves, FlightOk, WaitsAt, LineOk, WireOk, Inv}
+use Rattle.network.proofs.Facts.{Facts, Sound, facts, crossed_lt, hold_le, hold_after, old_ends, new_begins}
+use Rattle.network.proofs.Inv.{FlightOk, WaitsAt, Inv}
 use Rattle.network.proofs.Starts.{not_late}
 use Rattle.network.proofs.Keeps.{tick_inv}
 use Rattle.network.proofs.Accepted.{passes, early_ge, offer_inv, queue_inv}

@@ -1,12 +1,12 @@
 -- The whole timetable, with a change, in six facts; after that nobody looks at cycles, lists or holds.
-use Rattle.std.proofs.Common.{◌≡◌, ℕ, zero, suc, ◌+◌, ◌-◌, ◌*◌, ◌/◌, ◌%◌, ◌^◌, ◌<◌, ◌≤◌, Bool, true, false, cond, not, ◌&&◌, ◌||◌, eqb, ltb, leb, ◌⊎◌, sym, refl, ap, ◌∙◌, inl, inr, mul-le-mul_right, div-add-mod', arith}
-use Rattle.std.proofs.lemmas.Bool.{cases_lt, cases_eq, leb-true, ltb-true, and_parts, le-leb, lt-leb, false≢true}
-use Rattle.schedule.specs.Plan.{Plan, flow_count, hop_count, port_at, offset_at, end_at, wire_of, crossed_at, early_at, late_at}
+use Rattle.std.proofs.Common.{◌≡◌, ℕ, zero, suc, ◌+◌, ◌-◌, ◌*◌, ◌/◌, ◌<◌, ◌≤◌, true, ◌&&◌, eqb, ltb, leb, sym, refl, ap, ◌∙◌, inl, inr, mul-le-mul_right, div-add-mod', arith}
+use Rattle.std.proofs.lemmas.Bool.{cases_lt, cases_eq, ltb-true, and_parts, le-leb, lt-leb}
+use Rattle.schedule.specs.Plan.{Plan, flow_count, hop_count, port_at, offset_at, end_at, wire_of, crossed_at, early_at}
 use Rattle.gates.specs.Octets.{inside, octet_at, opens}
 use Rattle.gates.specs.Timetable.{Transition, steady, pending, replaced, hold_from, cyclic_octet, joint_octet, timetable}
 use Rattle.network.specs.Windows.{Turn, cycle_begin, begin_of, OccursIn, OccursJoint, Occurs}
 use Rattle.network.specs.Lawful.{Fit}
-use Rattle.network.proofs.Turns.{turns, reach_of_turn, closes, rules, apart, early_le, one_window, opens_7_is, opens_7_has, opens_other, gate_is, some_hop_is}
+use Rattle.network.proofs.Turns.{turns, reach_of_turn, closes, rules, apart, early_le, opens_7_is, opens_7_has, opens_other, gate_is, some_hop_is}
 
 -- the cycles of the plan in force that count
 abbrev pub Counts : Plan → ℕ → Transition → ℕ → Type 0

@@ -1,7 +1,7 @@
 -- Flows that join a line.
-use Rattle.std.proofs.Common.{◌≡◌, ℕ, zero, suc, ◌+◌, ◌<◌, ◌≤◌, Bool, true, false, cond, ◌&&◌, ◌||◌, eqb, ltb, ◌⊎◌, List, [], ◌∷◌, ◌++◌, length, get_or, take, sym, refl, ap, ◌∙◌, inl, inr, append_assoc, append-nil, add-one, arith, length-take}
-use Rattle.std.proofs.lemmas.List.{take_all, take-append-le, length_push, get_or_past}
-use Rattle.std.proofs.lemmas.Bool.{cases_lt, cases_Bool, lt-ltb, le-ltb, cond-true, cond-false, or_parts, and_left}
+use Rattle.std.proofs.Common.{◌≡◌, ℕ, zero, suc, ◌+◌, ◌≤◌, Bool, true, false, cond, eqb, ltb, List, [], ◌∷◌, ◌++◌, length, take, sym, refl, ap, ◌∙◌, inl, inr, append_assoc, append-nil, add-one, arith}
+use Rattle.std.proofs.lemmas.List.{take_all, take-append-le, length_push}
+use Rattle.std.proofs.lemmas.Bool.{cases_lt, lt-ltb, le-ltb, cond-true, cond-false, or_parts, and_left}
 use Rattle.schedule.specs.Plan.{Plan}
 use Rattle.egress.specs.Waiting as line
 use Rattle.network.specs.declared.flight.Flight.{Flight}
@@ -9,7 +9,7 @@ use Rattle.network.specs.declared.flight.Flight.TheVariants.{Idle, Waiting, Movi
 use Rattle.network.specs.declared.row.Row.{Row}
 use Rattle.network.specs.Flows.{joins}
 use Rattle.network.specs.Ports.{listed}
-use Rattle.network.specs.Tables.{blank, flight_in}
+use Rattle.network.specs.Tables.{flight_in}
 use Rattle.network.specs.Due.{reaches, some_due}
 
 -- a line takes what there is room for

@@ -1,23 +1,23 @@
 -- A tick keeps the invariant, and does to a flow what a closed form says.
-use Rattle.std.proofs.Common.{◌≡◌, ℕ, zero, suc, ◌+◌, ◌-◌, ◌*◌, ◌/◌, ◌%◌, ◌^◌, ◌<◌, ◌≤◌, Bool, true, false, cond, not, ◌&&◌, ◌||◌, eqb, ltb, leb, ◌⊎◌, List, [], ◌∷◌, ◌++◌, map, get_or, take, Some, None, Option, sym, refl, ap, ◌∙◌, subst, inl, inr, add-zero, arith}
+use Rattle.std.proofs.Common.{◌≡◌, ℕ, zero, suc, ◌+◌, ◌-◌, ◌^◌, ◌<◌, ◌≤◌, Bool, true, false, cond, not, ◌&&◌, eqb, ltb, leb, ◌⊎◌, List, [], ◌∷◌, ◌++◌, map, get_or, take, Some, None, Option, sym, refl, ap, ◌∙◌, subst, inl, inr, arith}
 use Rattle.std.specs.List.{AllByRecursion as All}
-use Rattle.std.proofs.lemmas.Bool.{cases_order, cases_Bool, cases_lt, cases_eq, and_parts, and_from, leb-true, leb-false, ltb-true, ltb-false, eqb-true, eqb-false, le-leb, lt-leb, lt-ltb, eq-eqb, ne_eqb, le-ltb, both_ways, not-true, cond-true, cond-false, true≢false, false≢true}
-use Rattle.schedule.specs.Plan.{Plan, flow_count, hop_count, release_of, port_at, offset_at, wire_of, delay_of, crossed_at, early_at, late_at}
+use Rattle.std.proofs.lemmas.Bool.{cases_order, cases_Bool, cases_lt, cases_eq, and_parts, ltb-false, eqb-true, le-leb, lt-leb, lt-ltb, eq-eqb, ne_eqb, le-ltb, both_ways, not-true, cond-true, cond-false, false≢true}
+use Rattle.schedule.specs.Plan.{Plan, flow_count, hop_count, release_of, port_at, offset_at, wire_of, delay_of}
 use Rattle.gates.specs.Timetable.{Transition, timetable}
 use Rattle.egress.specs.declared.ordinary.Frame.{Frame}
 use Rattle.egress.specs.Waiting.{front, rest}
 use Rattle.network.specs.declared.flight.Flight.{Flight}
 use Rattle.network.specs.declared.flight.Flight.TheVariants.{Idle, Waiting, Moving}
-use Rattle.network.specs.Windows.{Turn, cycle_begin, begin_of, Occurs, Busy}
+use Rattle.network.specs.Windows.{cycle_begin, begin_of, Occurs}
 use Rattle.network.specs.Lawful.{ClocksNear, Meaning, Lawful, port_count}
 use Rattle.network.specs.Flows.{has_next, landed, joins, arrives, span, is_flow, departed}
-use Rattle.network.specs.Ports.{Port, at_place, listed, joined_by, time_of_first, frame_time, time_of, available, chosen, sent, flow_sent, passed}
+use Rattle.network.specs.Ports.{at_place, listed, time_of_first, frame_time, time_of, chosen, sent, flow_sent}
 use Rattle.network.specs.Functions.{Core, after_joining, choice, ticked}
 use Rattle.network.specs.Guarantee.{NotYet, First, OnTime, due}
-use Rattle.network.proofs.Turns.{reach_of_turn, closes, apart, one_window}
-use Rattle.network.proofs.Facts.{Facts, Counts}
+use Rattle.network.proofs.Turns.{apart, one_window}
+use Rattle.network.proofs.Facts.{Facts}
 use Rattle.network.proofs.Certified.{least_is, greatest_is, release_le}
-use Rattle.network.proofs.Inv.{Waits, Moves, FlightOk, WaitsAt, LineOk, WireOk, Short, Inv}
+use Rattle.network.proofs.Inv.{FlightOk, WaitsAt, LineOk, WireOk, Short, Inv}
 use Rattle.network.proofs.Starts.{turn_of, time_7, time_none, not_late, starts_when, only_then, chosen_is}
 
 listed_cases : (n : ℕ) (q : ℕ → Bool) → ((f g : ℕ) → f < n → g < n → q f ≡ true → q g ≡ true → f ≡ g)

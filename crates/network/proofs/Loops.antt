@@ -1,6 +1,6 @@
 -- Loops that step each element by its place.
-use Rattle.std.proofs.Common.{◌≡◌, ℕ, zero, suc, ◌+◌, ◌<◌, ◌≤◌, List, [], ◌∷◌, ◌++◌, map, length, get_or, take, drop, set, Some, None, Option, sym, refl, ap, ◌∙◌, append-nil, zero-add, add-one, arith}
-use Rattle.std.proofs.lemmas.List.{take_all, drop_all, get_or-map, length-map, map-set}
+use Rattle.std.proofs.Common.{◌≡◌, ℕ, zero, suc, ◌+◌, ◌<◌, ◌≤◌, List, [], ◌∷◌, ◌++◌, map, length, get_or, take, drop, set, None, Option, sym, refl, ap, ◌∙◌, append-nil, zero-add, add-one, arith}
+use Rattle.std.proofs.lemmas.List.{take_all, drop_all, get_or-map, map-set}
 use Rattle.schedule.specs.Plan.{Plan}
 use Rattle.gates.specs.declared.timetable.Timetable.{Timetable}
 use Rattle.gates.specs.Lookup.{octets}
@@ -11,7 +11,6 @@ use Rattle.network.specs.Ports.{Port}
 use Rattle.network.specs.Tables.{Tables, over, reads, port_through, port_part, flow_part, row_landed, row_departed, ticked_tables}
 use Rattle.network.specs.Steps.{port_of, seen, started_of, joining, choosing, sending, passing, stepping}
 use Rattle.network.specs.Traffic.{followed}
-use Rattle.network.proofs.Overs.{length_over}
 
 module _ {Y : Type 0} (F : ℕ → Y → Y) where
   -- after i turns

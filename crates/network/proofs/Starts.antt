@@ -1,22 +1,19 @@
 -- The start tick: class 7 is chosen exactly when the port's clock reads the begin of the window.
-use Rattle.std.proofs.Common.{◌≡◌, ℕ, zero, suc, ◌+◌, ◌-◌, ◌*◌, ◌/◌, ◌%◌, ◌^◌, ◌<◌, ◌≤◌, Bool, true, false, cond, not, ◌&&◌, ◌||◌, eqb, ltb, leb, ◌⊎◌, List, [], ◌∷◌, ◌++◌, Some, None, Option, sym, refl, ap, ◌∙◌, subst, inl, inr, add-zero, arith}
-use Rattle.std.proofs.lemmas.Bool.{cases_order, cases_Bool, cases_lt, cases_eq, and_parts, and_from, leb-true, ltb-true, ltb-false, eqb-true, le-leb, lt-leb, lt-ltb, eq-eqb, ne_eqb, le-ltb, both_ways, true≢false, false≢true}
-use Rattle.schedule.specs.Plan.{Plan, flow_count, hop_count, release_of, port_at, offset_at, wire_of, early_at}
+use Rattle.std.proofs.Common.{◌≡◌, ℕ, ◌+◌, ◌^◌, ◌<◌, ◌≤◌, Bool, true, false, cond, ◌&&◌, ltb, leb, List, [], ◌∷◌, Some, None, Option, sym, refl, ap, ◌∙◌, subst, inl, inr, add-zero, arith}
+use Rattle.std.proofs.lemmas.Bool.{cases_order, cases_lt, cases_eq, and_parts, and_from, ltb-true, le-leb, lt-leb, lt-ltb, eq-eqb, ne_eqb, le-ltb}
+use Rattle.schedule.specs.Plan.{Plan, flow_count, hop_count, port_at, wire_of}
 use Rattle.gates.specs.Octets.{opens}
-use Rattle.gates.specs.Timetable.{Transition, timetable, each, open_for}
-use Rattle.egress.specs.Mask.{In}
+use Rattle.gates.specs.Timetable.{Transition, timetable, open_for}
 use Rattle.egress.specs.Waiting.{front}
-use Rattle.network.specs.declared.flight.Flight.{Flight}
-use Rattle.network.specs.declared.flight.Flight.TheVariants.{Idle, Waiting, Moving}
-use Rattle.network.specs.Windows.{Turn, cycle_begin, begin_of, Occurs, Busy}
+use Rattle.network.specs.Windows.{Turn, begin_of}
 use Rattle.network.specs.Lawful.{ClocksNear, Meaning, Lawful}
 use Rattle.network.specs.Flows.{is_flow}
 use Rattle.network.specs.Ports.{Port, mask_of, time_of_first, time_of, waits, available, chosen, flow_sent}
-use Rattle.network.specs.Guarantee.{NotYet, First}
+use Rattle.network.specs.Guarantee.{NotYet}
 use Rattle.network.proofs.Masks.{mask_below_lt, in_mask, mask_in}
-use Rattle.network.proofs.Turns.{each_tells, reach_of_turn, closes}
+use Rattle.network.proofs.Turns.{each_tells, reach_of_turn}
 use Rattle.network.proofs.Facts.{Facts, Counts}
-use Rattle.network.proofs.Inv.{Waits, Moves, FlightOk, WaitsAt, LineOk, WireOk, Inv}
+use Rattle.network.proofs.Inv.{WireOk}
 
 abbrev pub turn_of : (P : Plan) (p f h n : ℕ) → f < flow_count P → h < hop_count P f → port_at P f h ≡ p → Turn P p
 turn_of P p f h n fi hi at = record { flow = f; hop = h; cycles = n; flow_in = fi; hop_in = hi; at = at }

@@ -1,20 +1,20 @@
 -- The guarantee.
-use Rattle.std.proofs.Common.{◌≡◌, ℕ, zero, suc, ◌+◌, ◌-◌, ◌*◌, ◌/◌, ◌%◌, ◌^◌, ◌<◌, ◌≤◌, Bool, true, false, cond, not, ◌&&◌, ◌||◌, eqb, ltb, leb, ◌⊎◌, List, [], ◌∷◌, ◌++◌, map, length, Some, None, Option, sym, refl, ap, ◌∙◌, subst, inl, inr, arith}
-use Rattle.std.proofs.lemmas.Bool.{cases_Bool, cases_lt, cases_eq, eqb-true, eqb-false, eq-eqb, ne_eqb, both_ways, true≢false, false≢true}
-use Rattle.schedule.specs.Plan.{Plan, flow_count, hop_count, release_of, offset_at, port_at, wire_of, crossed_at}
-use Rattle.gates.specs.Timetable.{Transition, steady, pending, replaced, hold_from, timetable}
+use Rattle.std.proofs.Common.{◌≡◌, ℕ, zero, suc, ◌+◌, ◌-◌, ◌^◌, ◌<◌, ◌≤◌, Bool, true, false, cond, eqb, List, [], ◌∷◌, length, Some, None, Option, sym, refl, ap, ◌∙◌, inl, inr, arith}
+use Rattle.std.proofs.lemmas.Bool.{cases_Bool, cases_eq, eqb-true, eqb-false, eq-eqb, ne_eqb, both_ways, true≢false, false≢true}
+use Rattle.schedule.specs.Plan.{Plan, flow_count, hop_count, offset_at, port_at, crossed_at}
+use Rattle.gates.specs.Timetable.{Transition, steady, pending, replaced, timetable}
 use Rattle.network.specs.declared.flight.Flight.{Flight}
 use Rattle.network.specs.declared.flight.Flight.TheVariants.{Idle, Waiting, Moving}
 use Rattle.network.specs.declared.row.FlowRecord.{FlowRecord}
 use Rattle.network.specs.Windows.{cycle_begin}
-use Rattle.network.specs.Lawful.{Fit, ClocksNear, Meaning, Lawful}
+use Rattle.network.specs.Lawful.{ClocksNear, Meaning, Lawful}
 use Rattle.network.specs.Flows.{landed, is_under_way}
 use Rattle.network.specs.Calls.{Network, Call, offer, queue, read_record, read_wire, advance, change, settle, Reply, accepted, queued, recorded, carries, now_is, changes_at, settled, refused, out_of_order, offer_refused, record_refused, wire_refused, advance_refused, change_tick, change_refused, settle_refused, in_order, switched, tick, ticks, refusal, done, result, reply, after, run, replies}
-use Rattle.network.specs.Functions.{Core, put, extremes, record_of, ticked, offered, afresh, functions, new}
-use Rattle.network.specs.Guarantee.{First, OnTime, InTime, Punctual, Clear, HandedOver, Promised, AllFit, keeps, kept, concerns, told, Alike, Guaranteed, Guarantee}
+use Rattle.network.specs.Functions.{Core, extremes, record_of, ticked, offered, afresh, functions, new}
+use Rattle.network.specs.Guarantee.{InTime, Punctual, HandedOver, Promised, AllFit, keeps, kept, concerns, told, Alike, Guarantee}
 use Rattle.network.proofs.Facts.{Facts, Sound, facts}
 use Rattle.network.proofs.Certified.{greatest_is, release_le, climbs}
-use Rattle.network.proofs.Inv.{Waits, Moves, FlightOk, Inv}
+use Rattle.network.proofs.Inv.{FlightOk, Inv}
 use Rattle.network.proofs.Starts.{not_late}
 use Rattle.network.proofs.Keeps.{went, logged, tick_flight}
 use Rattle.network.proofs.Changes.{Ok, near_at, drained, ticked_inv, advance_fits, ticks_ok, after_ok, new_ok, run_ok}

@@ -1,10 +1,10 @@
 -- Windows in true time: they stand apart, and the gates follow them.
-use Rattle.std.proofs.Common.{◌≡◌, ℕ, zero, suc, ◌+◌, ◌-◌, ◌*◌, ◌/◌, ◌%◌, ◌^◌, ◌<◌, ◌≤◌, Bool, true, false, cond, not, ◌&&◌, ◌||◌, eqb, ltb, leb, ◌⊎◌, Decides, sym, refl, ap, ◌∙◌, subst, inl, inr, mul-le-mul_right, suc-mul, div-add-mod', arith}
+use Rattle.std.proofs.Common.{◌≡◌, ℕ, zero, suc, ◌+◌, ◌-◌, ◌*◌, ◌/◌, ◌%◌, ◌^◌, ◌<◌, ◌≤◌, Bool, true, false, ◌&&◌, eqb, ltb, leb, ◌⊎◌, Decides, sym, refl, ap, ◌∙◌, subst, inl, inr, mul-le-mul_right, suc-mul, div-add-mod', arith}
 use lib.Arith.{digits_mod}
-use Rattle.std.proofs.lemmas.Bool.{cases_order, cases_Bool, and_parts, and_from, leb-true, ltb-true, eqb-true, le-leb, lt-leb, lt-ltb, eq-eqb, both_ways, cases_lt, true≢false, false≢true}
+use Rattle.std.proofs.lemmas.Bool.{cases_order, and_parts, and_from, leb-true, ltb-true, eqb-true, le-leb, lt-leb, lt-ltb, eq-eqb, both_ways, cases_lt, true≢false, false≢true}
 use Rattle.std.proofs.lemmas.Bool.Decides.{Decides-below_or, Decides-below_and}
-use Rattle.schedule.specs.Plan.{Plan, flow_count, hop_count, release_of, port_at, offset_at, end_at, wire_of, crossed_at, early_at, late_at}
-use Rattle.schedule.specs.Rules.{Good, KeepsRules, After, Apart}
+use Rattle.schedule.specs.Plan.{Plan, flow_count, hop_count, port_at, offset_at, end_at, wire_of, early_at}
+use Rattle.schedule.specs.Rules.{KeepsRules, After, Apart}
 use Rattle.gates.specs.Octets.{some, inside, ahead, in_window, in_guard, octet_by, octet_at, opens}
 use Rattle.gates.specs.Timetable.{each, cyclic_octet}
 use Rattle.network.specs.Windows.{Turn, cycle_begin, begin_of}

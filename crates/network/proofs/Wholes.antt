@@ -1,15 +1,15 @@
 -- The promises of two networks newly started, from the guarantee and from what the tables show.
-use Rattle.std.proofs.Common.{◌≡◌, ℕ, zero, suc, ◌+◌, ◌^◌, ◌<◌, ◌≤◌, Bool, true, false, cond, ◌&&◌, eqb, leb, ◌⊎◌, List, [], ◌∷◌, map, length, get_or, take, Some, None, Option, sym, refl, ap, ◌∙◌, subst, inl, inr, arith}
+use Rattle.std.proofs.Common.{◌≡◌, ℕ, zero, suc, ◌^◌, ◌<◌, ◌≤◌, Bool, true, false, cond, ◌&&◌, eqb, leb, List, [], ◌∷◌, map, length, get_or, take, Some, None, Option, sym, refl, ap, ◌∙◌, subst, arith}
 use Rattle.std.specs.List.{AllByRecursion as All}
 use Rattle.std.proofs.lemmas.Bool.{and_parts, leb-true, eqb-true}
 use Rattle.schedule.specs.Plan.{Plan, flow_count}
 use Rattle.schedule.specs.Limits.{within}
 use Rattle.network.specs.declared.row.Row.{Row}
-use Rattle.network.specs.Lawful.{Fit, ClocksNear, Meaning, Lawful, port_count}
-use Rattle.network.specs.Calls.{Network, Call, Reply, first_above, StartRefusal, clock_fault, start_refused, wrong_base, wrong_counts, ticks, run, replies}
+use Rattle.network.specs.Lawful.{ClocksNear, Meaning, Lawful, port_count}
+use Rattle.network.specs.Calls.{Network, Call, Reply, first_above, clock_fault, start_refused, wrong_base, wrong_counts, run, replies}
 use Rattle.network.specs.Functions.{Core, extremes, functions, new}
-use Rattle.network.specs.Tables.{Tables, blank, tables, reads, new_tables}
-use Rattle.network.specs.Guarantee.{Promised, BringsFit, AllFit, kept, told, Alike, Guaranteed}
+use Rattle.network.specs.Tables.{Tables, blank, tables, reads}
+use Rattle.network.specs.Guarantee.{AllFit, kept, told, Alike, Guaranteed}
 use Rattle.network.specs.Shows.{RowShows, Shows}
 use Rattle.network.specs.Whole.{NewlyStarted, KeptPromises, CarriedOut, Whole}
 use Rattle.network.proofs.Theorem.{guarantee}

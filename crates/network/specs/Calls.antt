@@ -1,6 +1,5 @@
 -- The calls of a network: what each replies, when it is refused, and what it does. Stated once, over whatever holds the frames and ports.
-use Rattle.std.specs.Prelude.{ℕ, zero, suc, ◌+◌, ◌-◌, ◌*◌, ◌/◌, ◌%◌, ◌^◌, Bool, true, false, cond, not, ◌&&◌, ◌||◌, List, [], ◌∷◌, length, Some, None, Option, ◌==◌, nat_eq, nat_le, nat_lt}
-use Rattle.schedule.specs.declared.tables.Port.{Port}
+use Rattle.std.specs.Prelude.{ℕ, zero, suc, ◌+◌, ◌-◌, ◌*◌, ◌/◌, ◌%◌, ◌^◌, Bool, true, false, cond, not, ◌&&◌, List, [], ◌∷◌, length, Some, None, Option, ◌==◌, nat_eq, nat_le, nat_lt}
 use Rattle.schedule.specs.Plan.{Plan, flow_count, release_of, delay_of}
 use Rattle.schedule.specs.Limits.{unless, within}
 use Rattle.gates.specs.Timetable.{Transition, steady, pending, replaced, hold_from, timetable, each}

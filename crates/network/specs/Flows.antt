@@ -1,5 +1,5 @@
 -- What a tick does to the frame of a flow, seen from the flow.
-use Rattle.std.specs.Prelude.{ℕ, suc, ◌+◌, ◌-◌, min, max, Bool, true, false, cond, not, ◌&&◌, List, [], ◌∷◌, Some, None, Option, ◌==◌, nat_lt}
+use Rattle.std.specs.Prelude.{ℕ, suc, ◌+◌, min, max, Bool, true, false, cond, not, ◌&&◌, Some, None, Option, ◌==◌, nat_lt}
 use Rattle.schedule.specs.Plan.{Plan, hop_count, port_at, wire_of, delay_of}
 use Rattle.network.specs.declared.flight.Flight.{Flight}
 use Rattle.network.specs.declared.flight.Flight.TheVariants.{Idle, Waiting, Moving}

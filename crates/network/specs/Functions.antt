@@ -1,9 +1,9 @@
 -- Frames and ports as functions, with a log of each flow: what the guarantee speaks of.
-use Rattle.std.specs.Prelude.{ℕ, ◌+◌, ◌-◌, Bool, cond, List, [], ◌∷◌, length, Some, None, Option, ◌==◌, nat_lt}
+use Rattle.std.specs.Prelude.{ℕ, ◌+◌, ◌-◌, cond, List, [], ◌∷◌, length, Some, None, Option, ◌==◌, nat_lt}
 use Rattle.schedule.specs.Plan.{Plan, flow_count, port_at}
 use Rattle.gates.specs.Timetable.{steady}
 use Rattle.network.specs.declared.flight.Flight.{Flight}
-use Rattle.network.specs.declared.flight.Flight.TheVariants.{Idle, Waiting, Moving}
+use Rattle.network.specs.declared.flight.Flight.TheVariants.{Idle, Waiting}
 use Rattle.network.specs.declared.row.Transits.{Transits}
 use Rattle.network.specs.declared.row.FlowRecord.{FlowRecord}
 use Rattle.network.specs.Lawful.{Meaning, port_count}

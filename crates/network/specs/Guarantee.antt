@@ -7,7 +7,7 @@ use Rattle.network.specs.declared.flight.Flight.{Flight}
 use Rattle.network.specs.declared.flight.Flight.TheVariants.{Idle, Waiting, Moving}
 use Rattle.network.specs.Windows.{Busy}
 use Rattle.network.specs.Lawful.{Fit, ClocksNear, Meaning, Lawful, port_count}
-use Rattle.network.specs.Calls.{Network, Call, offer, queue, read_record, read_wire, advance, change, settle, Reply, stepped, ticks, run, replies}
+use Rattle.network.specs.Calls.{Network, Call, offer, queue, read_record, read_wire, advance, change, settle, Reply, ticks, run, replies}
 use Rattle.network.specs.Functions.{Core, record_of, functions, new}
 
 -- at every tick from W less the error up to before t the clock reads less than W

@@ -1,5 +1,5 @@
 -- What a port holds, and what a tick does to it.
-use Rattle.std.specs.Prelude.{ℕ, zero, suc, ◌+◌, ◌-◌, ◌^◌, Bool, true, false, cond, ◌&&◌, List, [], ◌∷◌, ◌++◌, length, take, replicate, Some, None, Option, ◌==◌, nat_lt, slice_index_or}
+use Rattle.std.specs.Prelude.{ℕ, zero, suc, ◌+◌, ◌-◌, ◌^◌, Bool, cond, ◌&&◌, List, [], ◌∷◌, ◌++◌, length, take, replicate, Some, None, Option, ◌==◌, nat_lt, slice_index_or}
 use Rattle.schedule.specs.Plan.{Plan, wire_of}
 use Rattle.gates.specs.Timetable.{open_for}
 use Rattle.egress.specs.declared.ordinary.Frame.{Frame}

@@ -2,7 +2,6 @@
 use Rattle.std.specs.Prelude.{◌≡◌, ℕ, ◌^◌, ◌<◌, ◌≤◌, List, length, slice_index_or}
 use Rattle.schedule.specs.Plan.{Plan, flow_count}
 use Rattle.network.specs.Lawful.{Meaning, port_count}
-use Rattle.network.specs.Flows.{is_under_way}
 use Rattle.network.specs.Ports.{Port}
 use Rattle.network.specs.Calls.{Network, Call, run, replies}
 use Rattle.network.specs.Functions.{Core, extremes, functions, new}

@@ -1,9 +1,9 @@
 -- Frames and ports as tables: what the contracts of code cite, and what can be computed with.
-use Rattle.std.specs.Prelude.{ℕ, zero, suc, ◌+◌, ◌-◌, ◌^◌, min, Bool, cond, List, [], ◌∷◌, map, length, get_or, replicate, Some, None, Option, slice_index_or}
+use Rattle.std.specs.Prelude.{ℕ, zero, suc, ◌+◌, ◌-◌, ◌^◌, min, cond, List, [], ◌∷◌, map, length, get_or, replicate, Some, None, Option, slice_index_or}
 use Rattle.schedule.specs.Plan.{Plan, flow_count, port_at}
 use Rattle.gates.specs.Timetable.{steady}
 use Rattle.network.specs.declared.flight.Flight.{Flight}
-use Rattle.network.specs.declared.flight.Flight.TheVariants.{Idle, Waiting, Moving}
+use Rattle.network.specs.declared.flight.Flight.TheVariants.{Idle, Waiting}
 use Rattle.network.specs.declared.row.Row.{Row}
 use Rattle.network.specs.declared.row.FlowRecord.{FlowRecord}
 use Rattle.network.specs.Lawful.{Meaning}

@@ -1,5 +1,6 @@
 // Networks that run a checked plan: what they are, what their calls do, and what is promised of every run.
 #![tactic(auto)]
+
 pub mod figures;
 pub mod flight;
 mod lookups;

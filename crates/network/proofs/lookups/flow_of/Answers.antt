@@ -1,4 +1,4 @@
-use Rattle.std.proofs.Common.{◌≡◌, List, get_or, sym, ap, ◌∙◌, arith}
+use Rattle.std.proofs.Common.{List, get_or, sym, ap, ◌∙◌, arith}
 use Rattle.std.proofs.lemmas.List.{get_or_past}
 use Rattle.schedule.specs.Plan.{no_flow}
 use Rattle.schedule.specs.declared.tables.Flow.{Flow}

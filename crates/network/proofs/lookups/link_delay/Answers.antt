@@ -1,4 +1,4 @@
-use Rattle.std.proofs.Common.{◌≡◌, List, get_or, sym, ap, ◌∙◌, arith, lit<}
+use Rattle.std.proofs.Common.{List, get_or, sym, ap, ◌∙◌, arith, lit<}
 use Rattle.std.proofs.lemmas.List.{get_or_past}
 use Rattle.schedule.specs.Plan.{no_port}
 use Rattle.schedule.specs.declared.tables.Port.{Port}

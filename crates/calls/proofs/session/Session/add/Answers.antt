@@ -1,4 +1,4 @@
-use Rattle.std.proofs.Common.{◌≡◌, Option, sym, refl, ap, subst, inl}
+use Rattle.std.proofs.Common.{Option, sym, refl, subst, inl}
 use Rattle.schedule.specs.declared.draft.Draft.{Draft}
 use Rattle.calls.specs.declared.reply.Reply.TheVariants.{Added}
 use Rattle.calls.specs.Sessions.{AddsTo, with_draft}

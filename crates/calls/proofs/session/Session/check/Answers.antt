@@ -1,4 +1,4 @@
-use Rattle.std.proofs.Common.{◌≡◌, Some, None, Option, sym, refl, ap, ◌∙◌, subst, inl, inr}
+use Rattle.std.proofs.Common.{Some, Option, refl, ap, ◌∙◌, subst, inl, inr}
 use Rattle.schedule.specs.declared.draft.Draft.{Draft}
 use Rattle.calls.specs.declared.session.Session.{Session}
 use Rattle.calls.specs.declared.reply.Reply.TheVariants.{Checked, Faulty}

@@ -1,4 +1,4 @@
-use Rattle.std.proofs.Common.{◌≡◌, Ok, Option, sym, refl, subst, inl}
+use Rattle.std.proofs.Common.{Ok, Option, sym, refl, subst, inl}
 use Rattle.schedule.specs.declared.checked.CheckedPlan.{CheckedPlan}
 use Rattle.calls.specs.declared.reply.Reply.TheVariants.{Gates}
 use Rattle.calls.specs.Sessions.{GatesOf}

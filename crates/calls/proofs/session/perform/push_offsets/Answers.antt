@@ -1,4 +1,4 @@
-use Rattle.std.proofs.Common.{◌≡◌, ℕ, List, [], ◌∷◌, ◌++◌, map, get_or, take, vec_items, sym, ap, ◌∙◌, append_assoc, arith}
+use Rattle.std.proofs.Common.{List, [], ◌∷◌, ◌++◌, map, get_or, take, vec_items, sym, ap, ◌∙◌, append_assoc, arith}
 use Rattle.std.proofs.lemmas.List.{map_more, take_all}
 use Rattle.schedule.specs.declared.tables.Window.{Window}
 use Rattle.schedule.specs.Plan.{no_window}
@@ -12,9 +12,9 @@ loop-window-preserved c =
     let was = vec_items c.args.offsets.now in
     let front = map offset_in (take i ws) in
     let o = offset_in (get_or ws i no_window) in (
-      c.push-reserved.ensures.items ∙ ap (λ l. l ++ o ∷ []) c.loop-window.invariant.0 ∙ append_assoc was front (o ∷ []) ∙ ap (λ l. was ++ l) (sym (map_more offset_in ws i no_window (omega arith))),
-      omega (arith, c.push-reserved.ensures.len),
-      c.push-reserved.ensures.capacity ∙ c.loop-window.invariant.2,
+      c.push_reserved.ensures.items ∙ ap (λ l. l ++ o ∷ []) c.loop-window.invariant.0 ∙ append_assoc was front (o ∷ []) ∙ ap (λ l. was ++ l) (sym (map_more offset_in ws i no_window (omega arith))),
+      omega (arith, c.push_reserved.ensures.len),
+      c.push_reserved.ensures.capacity ∙ c.loop-window.invariant.2,
     )
 
 pub returns : goal.returns

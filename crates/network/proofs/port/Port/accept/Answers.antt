@@ -5,4 +5,4 @@ use Rattle.network.proofs.port.Port.accept.Goals as goal
 
 pub returns : goal.returns
 unfolding port_of adding
-returns g c = port_path _ (adding c.args.f (port_of c.args.self.now)) c.add-flow.ensures refl refl refl refl
+returns g c = port_path _ (adding c.args.f (port_of c.args.self.now)) c.add_flow.ensures refl refl refl refl

@@ -9,15 +9,15 @@ use Rattle.network.proofs.port.Port.available.Goals as goal
 pub loop-c-init : goal.loop-c-init
 loop-c-init g c = mask_start (ready (checked_plan c.args.plan.now) (octets c.args.gates.now) c.args.l (port_of c.args.self.now))
 
-pub with-class-mask-requires : goal.with-class-mask-requires
-with-class-mask-requires g c =
+pub with_class-mask-requires : goal.with_class-mask-requires
+with_class-mask-requires g c =
     let q : ℕ → Bool = ready (checked_plan c.args.plan.now) (octets c.args.gates.now) c.args.l (port_of c.args.self.now) in
     (omega arith, omega (arith, c.loop-c.invariant, mask_below_lt c.loop-c.c q))
 
 pub loop-c-preserved : goal.loop-c-preserved
 loop-c-preserved g c =
     let q : ℕ → Bool = ready (checked_plan c.args.plan.now) (octets c.args.gates.now) c.args.l (port_of c.args.self.now) in
-    mask_step c.loop-c.c q c.loop-c.mask _ _ c.loop-c.invariant c.is-available.ensures c.with-class-mask.ensures
+    mask_step c.loop-c.c q c.loop-c.mask _ _ c.loop-c.invariant c.is_available.ensures c.with_class-mask.ensures
 
 pub returns : goal.returns
 returns g c =

@@ -1,4 +1,4 @@
-use Rattle.std.proofs.Common.{ℕ, ◌-◌, ltb, Some, None, Option, sym}
+use Rattle.std.proofs.Common.{◌-◌, ltb, Some, None, sym}
 use Rattle.std.proofs.lemmas.Bool.{cond-true, cond-false, lt-ltb, le-ltb}
 use Rattle.network.specs.Steps.{port_of}
 use Rattle.network.proofs.port.Port.carries.Goals as goal

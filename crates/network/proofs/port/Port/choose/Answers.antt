@@ -1,8 +1,8 @@
 use Rattle.network.specs.Lawful.{meaning}
-use Rattle.std.proofs.Common.{◌≡◌, sym, refl, ap, ◌∙◌, arith}
+use Rattle.std.proofs.Common.{sym, ap, ◌∙◌, arith}
 use Rattle.schedule.specs.Checks.{checked_plan}
 use Rattle.gates.specs.Lookup.{octets}
-use Rattle.network.specs.Ports.{mask_of, flow_sent}
+use Rattle.network.specs.Ports.{flow_sent}
 use Rattle.network.specs.Steps.{port_of, ready, sending}
 use Rattle.network.proofs.Portions.{choosing_busy, choosing_free}
 use Rattle.network.proofs.Masks.{mask_below_lt}

@@ -1,5 +1,4 @@
-use Rattle.std.proofs.Common.{◌≡◌, List, [], ◌∷◌, refl}
-use Rattle.egress.specs.Lines.{frames}
+use Rattle.std.proofs.Common.{[], ◌∷◌, refl}
 use Rattle.network.specs.Ports.{empty_port}
 use Rattle.network.specs.Steps.{port_of}
 use Rattle.network.proofs.Portions.{port_path}

@@ -1,5 +1,5 @@
 use Rattle.network.specs.Lawful.{meaning}
-use Rattle.std.proofs.Common.{◌≡◌, sym, refl, ap, ◌∙◌}
+use Rattle.std.proofs.Common.{refl, ap, ◌∙◌}
 use Rattle.schedule.specs.Checks.{checked_plan}
 use Rattle.gates.specs.Lookup.{octets}
 use Rattle.network.specs.Ports.{mask_of}
@@ -14,6 +14,6 @@ returns g c =
     let waiting = c.waiting-waiting.ensures ∙ ap mask_of (waiting_is P (port_of s)) in
     record {
       port = port_path _ (passing P (octets c.args.gates.now) (meaning g.S.Selection.held g.S.Selection.pick g.S.Selection.passed) c.args.t c.args.l (port_of s)) refl refl refl refl
-          (c.pass.ensures ∙ (λ i. g.S.Selection.passed s.selection (c.on-wire-wire.ensures i) (waiting i) (c.requires i)));
+          (c.pass.ensures ∙ (λ i. g.S.Selection.passed s.selection (c.on_wire-wire.ensures i) (waiting i) (c.requires i)));
       started = refl;
     }

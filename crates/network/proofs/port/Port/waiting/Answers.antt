@@ -7,11 +7,11 @@ use Rattle.network.proofs.port.Port.waiting.Goals as goal
 pub loop-c-init : goal.loop-c-init
 loop-c-init g c = mask_start (has_waiting (port_of c.args.self.now))
 
-pub with-class-mask-requires : goal.with-class-mask-requires
-with-class-mask-requires g c = (omega arith, omega (arith, c.loop-c.invariant, mask_below_lt c.loop-c.c (has_waiting (port_of c.args.self.now))))
+pub with_class-mask-requires : goal.with_class-mask-requires
+with_class-mask-requires g c = (omega arith, omega (arith, c.loop-c.invariant, mask_below_lt c.loop-c.c (has_waiting (port_of c.args.self.now))))
 
 pub loop-c-preserved : goal.loop-c-preserved
-loop-c-preserved g c = mask_step c.loop-c.c (has_waiting (port_of c.args.self.now)) c.loop-c.mask _ _ c.loop-c.invariant c.has_waiting.ensures c.with-class-mask.ensures
+loop-c-preserved g c = mask_step c.loop-c.c (has_waiting (port_of c.args.self.now)) c.loop-c.mask _ _ c.loop-c.invariant c.has_waiting.ensures c.with_class-mask.ensures
 
 pub returns : goal.returns
 returns g c =

@@ -1,4 +1,4 @@
-use Rattle.std.proofs.Common.{◌≡◌, ◌/◌, ◌^◌, Bool, ◌&&◌, eqb, ltb, sym, ap, ◌∙◌}
+use Rattle.std.proofs.Common.{◌/◌, ◌^◌, ◌&&◌, eqb, sym}
 use Rattle.std.proofs.lemmas.Nat.{and_mask}
 use Rattle.std.proofs.lemmas.Bool.{lt-ltb}
 use Rattle.network.proofs.port.lines.is_open.Goals as goal

@@ -1,4 +1,4 @@
-use Rattle.std.proofs.Common.{◌≡◌, length, sym, ◌∙◌}
+use Rattle.std.proofs.Common.{length, sym, ◌∙◌}
 use Rattle.schedule.specs.Checks.{checked_plan}
 use Rattle.egress.specs.Lines.{flows}
 use Rattle.network.specs.Flows.{joins}

@@ -1,4 +1,4 @@
-use Rattle.std.proofs.Common.{◌≡◌, [], map, length, sym, refl, ap, ◌∙◌, arith}
+use Rattle.std.proofs.Common.{[], map, length, sym, ap, ◌∙◌, arith}
 use Rattle.std.proofs.lemmas.List.{get_or_past, get_or-map, length-map}
 use Rattle.egress.specs.Lines.{frames}
 use Rattle.network.proofs.port.lines.line_len.Goals as goal

@@ -1,4 +1,4 @@
-use Rattle.std.proofs.Common.{◌≡◌, Some, None, sym, ap, ◌∙◌, arith}
+use Rattle.std.proofs.Common.{None, sym, ap, ◌∙◌, arith}
 use Rattle.network.specs.declared.port.Port.{Port}
 use Rattle.network.specs.Ports.{carried}
 use Rattle.network.specs.Steps.{port_of}

@@ -1,4 +1,4 @@
-use Rattle.std.proofs.Common.{◌≡◌, map, sym, ap, ◌∙◌, arith}
+use Rattle.std.proofs.Common.{arith}
 use Rattle.network.specs.Ports.{line_length}
 use Rattle.network.specs.Steps.{port_of, lining}
 use Rattle.network.proofs.Places.{place_seen, at_or_seen}

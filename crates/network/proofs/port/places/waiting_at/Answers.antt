@@ -1,4 +1,4 @@
-use Rattle.std.proofs.Common.{◌≡◌, get_or, sym, ap, ◌∙◌, arith}
+use Rattle.std.proofs.Common.{sym, ap, ◌∙◌, arith}
 use Rattle.network.specs.declared.port.Port.{Port}
 use Rattle.network.specs.Ports.{line_length}
 use Rattle.network.specs.Steps.{port_of}
@@ -12,4 +12,4 @@ pub returns : goal.returns
 unfolding port_of
 returns g c =
     let x = c.index-ports-p.result in
-    c.line-len.ensures ∙ sym (at_or_seen port_of (line_length c.args.class) 0 c.args.ports.now c.args.p x (omega arith) ∙ ap (λ (y : Port g.row.S.Denot). line_length c.args.class (port_of y)) (sym c.index-ports-p.is))
+    c.line_len.ensures ∙ sym (at_or_seen port_of (line_length c.args.class) 0 c.args.ports.now c.args.p x (omega arith) ∙ ap (λ (y : Port g.row.S.Denot). line_length c.args.class (port_of y)) (sym c.index-ports-p.is))

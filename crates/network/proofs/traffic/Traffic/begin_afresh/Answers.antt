@@ -1,5 +1,4 @@
-use Rattle.std.proofs.Common.{◌≡◌, List, map, length, replicate, vec_items, sym, refl, ap, ◌∙◌, arith}
-use Rattle.schedule.specs.declared.tables.Flow.{Flow}
+use Rattle.std.proofs.Common.{map, length, replicate, vec_items, refl, ap, ◌∙◌, arith}
 use Rattle.network.specs.Tables.{blank, fresh_tables}
 use Rattle.network.specs.Steps.{port_of}
 use Rattle.network.specs.Traffic.{tables_of}

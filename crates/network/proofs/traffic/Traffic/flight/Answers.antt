@@ -5,4 +5,4 @@ use Rattle.network.proofs.traffic.Traffic.flight.Goals as goal
 
 pub returns : goal.returns
 unfolding tables_of
-returns g c = c.flight-of.ensures ∙ ap (λ l. flight_in l c.args.f) c.as-slice.ensures.value
+returns g c = c.flight_of.ensures ∙ ap (λ l. flight_in l c.args.f) c.as_slice.ensures.value

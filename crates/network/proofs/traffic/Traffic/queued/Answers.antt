@@ -8,4 +8,4 @@ use Rattle.network.proofs.traffic.Traffic.queued.Goals as goal
 
 pub returns : goal.returns
 unfolding tables_of
-returns g c = c.waiting-at.ensures ∙ ap (λ (l : List (Port g.row.S.Denot)). at_or (line_length c.args.class) 0 (map port_of l) c.args.p) c.as-slice.ensures.value
+returns g c = c.waiting_at.ensures ∙ ap (λ (l : List (Port g.row.S.Denot)). at_or (line_length c.args.class) 0 (map port_of l) c.args.p) c.as_slice.ensures.value

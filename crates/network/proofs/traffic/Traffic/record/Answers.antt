@@ -6,4 +6,4 @@ use Rattle.network.proofs.traffic.Traffic.record.Goals as goal
 
 pub returns : goal.returns
 unfolding tables_of
-returns g c = c.tell.ensures ∙ ap (λ (l : List Row). row_tells (get_or l c.args.f blank)) c.as-slice.ensures.value
+returns g c = c.tell.ensures ∙ ap (λ (l : List Row). row_tells (get_or l c.args.f blank)) c.as_slice.ensures.value

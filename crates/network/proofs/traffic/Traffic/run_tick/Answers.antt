@@ -20,18 +20,18 @@ returns g c =
     let t = s.now in
     let ρ : ℕ → ℕ → ℕ = reads g.K.Clock.reading c.args.clocks.now in
     let σ : ℕ → ℕ → ℕ = followed c.args.timetables.now in
-    let ys : List (Port g.row.S.Denot) = c.step-ports.new.ports in
-    let rs : List Row = c.step-rows.new.rows in
-    let ep = c.as-mut-slice.ensures.value in
-    let er = c.as-slice.ensures.value in
+    let ys : List (Port g.row.S.Denot) = c.step_ports.new.ports in
+    let rs : List Row = c.step_rows.new.rows in
+    let ep = c.as_mut_slice.ensures.value in
+    let er = c.as_slice.ensures.value in
     let a : map seen ys ≡ over (λ p x. port_through K P t (vec_items s.rows) (σ p) (ρ p t) p x.0) 0 (map seen (vec_items s.ports))
-    = c.step-ports.ensures ∙ (λ i. over (λ p x. port_through K P t (er i) (σ p) (ρ p t) p x.0) 0 (map seen (ep i))) in
+    = c.step_ports.ensures ∙ (λ i. over (λ p x. port_through K P t (er i) (σ p) (ρ p t) p x.0) 0 (map seen (ep i))) in
     let n : length ys ≡ s.ports.len = sym (length-map ys seen) ∙ ap length a ∙ length_over _ 0 (map seen (vec_items s.ports)) ∙ length-map (vec_items s.ports) seen ∙ sym s.ports.ok.0 in
     let e = with_items_is s.ports ys n in
-    let eq = c.as-slice-2.ensures.value in
-    let em = c.as-mut-slice-2.ensures.value in
+    let eq = c.as_slice-2.ensures.value in
+    let em = c.as_mut_slice-2.ensures.value in
     let b : rs ≡ over (λ f r. row_departed P t (λ p. get_or (map started_of ys) p None) f (row_landed P t f r)) 0 (vec_items s.rows)
-    = c.step-rows.ensures ∙ (λ i. over (λ f r. row_departed P t (λ p. get_or (map started_of ((eq ∙ e) i)) p None) f (row_landed P t f r)) 0 (em i)) in
+    = c.step_rows.ensures ∙ (λ i. over (λ f r. row_departed P t (λ p. get_or (map started_of ((eq ∙ e) i)) p None) f (row_landed P t f r)) 0 (em i)) in
     let m : length rs ≡ s.rows.len = ap length b ∙ length_over _ 0 (vec_items s.rows) ∙ sym s.rows.ok.0 in
     let d = with_items_is s.rows rs m in
     record {

@@ -8,21 +8,21 @@ use Rattle.network.specs.Traffic.{tables_of, lined_table}
 use Rattle.network.proofs.Places.{length_place}
 use Rattle.network.proofs.traffic.Traffic.take_frame.Goals as goal
 
-pub enqueue-at-requires : goal.enqueue-at-requires
+pub enqueue_at-requires : goal.enqueue_at-requires
 unfolding tables_of
-enqueue-at-requires g c =
+enqueue_at-requires g c =
     let s = c.args.self.now in
-    let e = ap (λ (l : List (Port g.row.S.Denot)). at_or (line_length c.args.class) 0 (map port_of l) c.args.p) c.as-mut-slice.ensures.value in
-    (omega (arith, c.requires.0, c.as-mut-slice.ensures.len), c.requires.1, omega (arith, c.requires.2, e))
+    let e = ap (λ (l : List (Port g.row.S.Denot)). at_or (line_length c.args.class) 0 (map port_of l) c.args.p) c.as_mut_slice.ensures.value in
+    (omega (arith, c.requires.0, c.as_mut_slice.ensures.len), c.requires.1, omega (arith, c.requires.2, e))
 
 pub returns : goal.returns
 unfolding tables_of lined_table
 returns g c =
     let s = c.args.self.now in
-    let ys : List (Port g.row.S.Denot) = c.enqueue-at.new.ports in
+    let ys : List (Port g.row.S.Denot) = c.enqueue_at.new.ports in
     let F = with_frame c.args.class c.args.frame in
     let a : map port_of ys ≡ at_place c.args.p F (map port_of (vec_items s.ports))
-    = c.enqueue-at.ensures ∙ ap (λ (l : List (Port g.row.S.Denot)). at_place c.args.p F (map port_of l)) c.as-mut-slice.ensures.value in
+    = c.enqueue_at.ensures ∙ ap (λ (l : List (Port g.row.S.Denot)). at_place c.args.p F (map port_of l)) c.as_mut_slice.ensures.value in
     let n : length ys ≡ s.ports.len = sym (length-map ys port_of) ∙ ap length a ∙ length_place c.args.p F (map port_of (vec_items s.ports)) ∙ length-map (vec_items s.ports) port_of ∙ sym s.ports.ok.0 in
     let e = with_items_is s.ports ys n in
     record {

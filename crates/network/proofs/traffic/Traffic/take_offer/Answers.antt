@@ -17,13 +17,13 @@ returns g c =
     let s = c.args.self.now in
     let P = checked_plan c.args.plan.now in
     let f = c.args.f in
-    let ys : List (Port g.row.S.Denot) = c.accept-at.new.ports in
+    let ys : List (Port g.row.S.Denot) = c.accept_at.new.ports in
     let rs : List Row = c.accept.new.rows in
-    let ep = c.as-mut-slice.ensures.value in
+    let ep = c.as_mut_slice.ensures.value in
     let a : map port_of ys ≡ at_place (port_at P f 0) (joined_by (f ∷ [])) (map port_of (vec_items s.ports))
-    = c.accept-at.ensures ∙ (λ i. at_place (c.port-of-hop-p.ensures i) (joined_by (f ∷ [])) (map port_of (ep i))) in
+    = c.accept_at.ensures ∙ (λ i. at_place (c.port_of_hop-p.ensures i) (joined_by (f ∷ [])) (map port_of (ep i))) in
     let n : length ys ≡ s.ports.len = sym (length-map ys port_of) ∙ ap length a ∙ length_place (port_at P f 0) (joined_by (f ∷ [])) (map port_of (vec_items s.ports)) ∙ length-map (vec_items s.ports) port_of ∙ sym s.ports.ok.0 in
-    let em = c.as-mut-slice-2.ensures.value in
+    let em = c.as_mut_slice-2.ensures.value in
     let b : rs ≡ at_place f (row_accepted s.now) (vec_items s.rows) = c.accept.ensures ∙ ap (at_place f (row_accepted s.now)) em in
     let m : length rs ≡ s.rows.len = ap length b ∙ length_place f (row_accepted s.now) (vec_items s.rows) ∙ sym s.rows.ok.0 in
     let d = with_items_is s.rows rs m in

@@ -8,4 +8,4 @@ use Rattle.network.proofs.traffic.Traffic.wire.Goals as goal
 
 pub returns : goal.returns
 unfolding tables_of
-returns g c = c.carried-at.ensures ∙ ap (λ (l : List (Port g.row.S.Denot)). at_or (carried c.args.self.now.now) None (map port_of l) c.args.p) c.as-slice.ensures.value
+returns g c = c.carried_at.ensures ∙ ap (λ (l : List (Port g.row.S.Denot)). at_or (carried c.args.self.now.now) None (map port_of l) c.args.p) c.as_slice.ensures.value

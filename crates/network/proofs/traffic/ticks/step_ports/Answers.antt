@@ -1,5 +1,5 @@
 use Rattle.network.specs.Lawful.{meaning}
-use Rattle.std.proofs.Common.{◌≡◌, ◌++◌, map, length, get_or, sym, ap, ◌∙◌, arith}
+use Rattle.std.proofs.Common.{map, get_or, sym, ap, ◌∙◌, arith}
 use Rattle.std.proofs.lemmas.List.{length-map}
 use Rattle.schedule.specs.Checks.{checked_plan}
 use Rattle.gates.specs.Lookup.{octets}

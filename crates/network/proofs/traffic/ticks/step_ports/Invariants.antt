@@ -1,5 +1,5 @@
 use Rattle.network.specs.Lawful.{meaning}
-use Rattle.std.proofs.Common.{◌≡◌, ℕ, ◌++◌, map, take, drop}
+use Rattle.std.proofs.Common.{◌≡◌, ◌++◌, map, take, drop}
 use Rattle.schedule.specs.Checks.{checked_plan}
 use Rattle.network.specs.Tables.{over, reads, port_through}
 use Rattle.network.specs.Steps.{seen}

@@ -1,4 +1,4 @@
-use Rattle.std.proofs.Common.{◌≡◌, ℕ, ◌++◌, map, get_or, take, drop, None, Option, sym, ap, ◌∙◌, arith}
+use Rattle.std.proofs.Common.{ℕ, map, get_or, None, Option, ap, ◌∙◌, arith}
 use Rattle.schedule.specs.Plan.{Plan}
 use Rattle.schedule.specs.Checks.{checked_plan}
 use Rattle.network.specs.declared.row.Row.{Row}
