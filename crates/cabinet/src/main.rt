@@ -1,11 +1,13 @@
 // Reads a scenario from standard input, does it call by call, and prints a reply for each.
 #![tactic(auto)]
+
 mod stop;
 
 use calls::session::Session;
 use scenario::call::Problem;
 use scenario::line::parse_line;
 use std::io::{BufRead, BufReader};
+use std::process::ExitCode;
 use stop::Stop;
 
 fn answer(rt: &HostRuntime, session: &mut Session, line: u64, text: &str) -> Result<(), Stop> {
@@ -31,10 +33,12 @@ fn answer_all(rt: &HostRuntime) -> Result<(), Stop> {
     Ok(())
 }
 
-fn main(rt: HostRuntime) -> Result<(), Stop> {
-    let done = answer_all(&rt);
-    if let Err(stop) = &done {
-        let _ = eprintln!(rt; "error: {stop}");
+fn main(rt: HostRuntime) -> ExitCode {
+    match answer_all(&rt) {
+        Ok(()) => ExitCode::SUCCESS,
+        Err(stop) => {
+            let _ = eprintln!(rt; "error: {stop}");
+            ExitCode::FAILURE
+        }
     }
-    done
 }

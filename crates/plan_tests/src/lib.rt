@@ -1,5 +1,6 @@
 // Examples of planning at and beyond each edge: proved safe, and run.
 #![tactic(auto)]
+
 #[cfg(test)]
 mod checks;
 #[cfg(test)]

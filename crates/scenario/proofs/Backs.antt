@@ -1,5 +1,5 @@
 -- A line that is written is read back.
-use Rattle.std.proofs.Common.{◌≡◌, ℕ, ◌+◌, ◌-◌, ◌*◌, ◌^◌, ◌<◌, ◌≤◌, Bool, true, false, cond, not, ◌&&◌, ◌||◌, eqb, ltb, leb, List, [], ◌∷◌, ◌++◌, map, length, Some, Ok, Err, codes, decimal, Result, sym, refl, ap, ◌∙◌, ⊎_elim, append_assoc, append-nil, arith, rules}
+use Rattle.std.proofs.Common.{◌≡◌, ℕ, ◌^◌, ◌<◌, Bool, true, false, not, ◌&&◌, ◌||◌, eqb, List, [], ◌∷◌, ◌++◌, map, length, Some, Ok, codes, decimal, Result, sym, refl, ap, ◌∙◌, ⊎_elim, append_assoc, append-nil, arith, rules}
 use Rattle.std.specs.List.{AllByRecursion as All}
 use Rattle.std.specs.Str.{bytes_eq}
 use Rattle.std.proofs.lemmas.Fmt.{decimal_nonempty, digits_decimal, digits_value-decimal}
@@ -9,10 +9,9 @@ use Rattle.std.proofs.lemmas.Bool.{and_parts, not-true, or_parts, cond-true, con
 use Rattle.std.proofs.lemmas.Bool.Decides.{nat_tests}
 use Rattle.scenario.specs.declared.call.Problem.{Problem}
 use Rattle.scenario.specs.Texts.{uncommented, parts, ended, words_after, words_of, digit, digits, value_after, value_of, fitting, number_of}
-use Rattle.scenario.specs.Lines.{Word, Asked, opens, places, adds, checks, certifies, shows_gates, ◌then◌, keyword, numeral, field, numerals, numerals_until, open_form, place_form, add_form, words_form, line_form}
+use Rattle.scenario.specs.Lines.{Word, Asked, opens, places, adds, checks, certifies, shows_gates, ◌then◌, numerals, numerals_until, words_form}
 use Rattle.scenario.specs.Written.{spelled, spaced, numbers_in, ReadsBack}
 use Rattle.scenario.proofs.Steps.{fits}
-use Rattle.scenario.proofs.Lists.{in_front_until}
 
 -- a byte that neither parts words nor starts a comment
 abbrev plain_byte : ℕ → Bool
@@ -98,6 +97,10 @@ other_word n k lt no_number =
     (λ same. absurd (both_ways (digits k) no_number (ap digits (sym ((bytes_eq-Decides (decimal n) k).0 same)) ∙ digits_decimal own n lt)))
     (λ other. other)
     (cases_Bool (bytes_eq (decimal n) k))
+
+-- the numbers xs in front of those that are read up to a keyword
+abbrev in_front_until : List ℕ → List ℕ × List Word → Result (List ℕ × List Word) Problem
+in_front_until xs q = Ok (xs ++ q.0, q.1)
 
 -- a list of numbers up to a keyword
 until_back : (k : Word) (ns : List ℕ) (ws : List Word) → digits k ≡ false → All (λ n. n < 2 ^ 64) ns → numerals_until k (map decimal ns ++ k ∷ ws) ≡ Ok (ns, ws)

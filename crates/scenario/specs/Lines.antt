@@ -1,11 +1,10 @@
 -- What a line asks for: its words read into a call, or the problem that it has.
-use Rattle.std.specs.Prelude.{◌≡◌, ℕ, Bool, true, false, cond, ◌||◌, ◌⊎◌, List, [], ◌∷◌, is_ok, Some, None, Ok, Err, vec_items, codes, Option, Result}
+use Rattle.std.specs.Prelude.{◌≡◌, ℕ, Bool, true, false, cond, ◌⊎◌, List, [], ◌∷◌, is_ok, Some, None, Ok, Err, vec_items, codes, Option, Result}
 use Rattle.std.specs.Option.{ok_or, option_map, unwrap_or}
 use Rattle.std.specs.Str.{bytes_eq}
 use Rattle.scenario.specs.declared.call.Call.{Call}
 use Rattle.scenario.specs.declared.call.Call.TheVariants.{Open, Place, Add, Check, Certificate, Gates}
 use Rattle.scenario.specs.declared.line.Name.{Name}
-use Rattle.scenario.specs.declared.line.Name.TheVariants as Name
 use Rattle.scenario.specs.declared.call.Problem.{Problem}
 use Rattle.scenario.specs.declared.call.Problem.TheVariants.{UnknownCall, MissingWord, UnexpectedWord, OutOfMemory}
 use Rattle.scenario.specs.Texts.{uncommented, words_of, number_of}

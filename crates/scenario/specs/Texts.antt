@@ -1,5 +1,5 @@
 -- A line's words, and the number that a word writes. Bytes are numbers, a text is the list of its bytes.
-use Rattle.std.specs.Prelude.{ℕ, ◌+◌, ◌-◌, ◌*◌, ◌^◌, Bool, true, false, cond, ◌&&◌, ◌||◌, List, [], ◌∷◌, ◌++◌, Ok, Err, Result, ◌==◌, nat_le, nat_lt}
+use Rattle.std.specs.Prelude.{ℕ, ◌+◌, ◌-◌, ◌*◌, ◌^◌, Bool, true, cond, ◌&&◌, ◌||◌, List, [], ◌∷◌, ◌++◌, Ok, Err, Result, ◌==◌, nat_le, nat_lt}
 use Rattle.scenario.specs.declared.words.Words.{Words}
 use Rattle.scenario.specs.declared.call.Problem.{Problem}
 use Rattle.scenario.specs.declared.call.Problem.TheVariants.{NotANumber, NumberTooLarge}
