@@ -1,6 +1,6 @@
 -- An accepted change, the tick at which it comes, and settling keep the invariant; and so every run does.
 use Rattle.std.proofs.Common.{◌≡◌, ℕ, zero, suc, ◌+◌, ◌-◌, ◌*◌, ◌%◌, ◌^◌, ◌<◌, ◌≤◌, Bool, true, false, cond, ◌&&◌, eqb, ltb, leb, List, [], ◌∷◌, get_or, replicate, Some, None, Option, sym, refl, ap, ◌∙◌, subst, inl, inr, add-zero, arith}
-use Rattle.std.specs.List.{AllByRecursion as All}
+use Rattle.std.specs.List.{AllByRecursion}
 use Rattle.std.proofs.lemmas.Bool.{and_parts, cases_Bool, cases_lt, cases_eq, leb-true, eqb-true, eq-eqb, ne_eqb, false≢true}
 use Rattle.schedule.specs.Plan.{Plan, flow_count, port_at, offset_at, delay_of}
 use Rattle.schedule.specs.Limits.{unless, within}
@@ -308,7 +308,7 @@ module _ (P₀ : Plan) (ρ : ℕ → ℕ → ℕ) (near : ClocksNear P₀.error 
     };
   }
     where
-      small : (p c : ℕ) → All (λ (x : Frame). x.octets ≤ 1522) (get_or (replicate 7 []) c [])
+      small : (p c : ℕ) → AllByRecursion (λ (x : Frame). x.octets ≤ 1522) (get_or (replicate 7 []) c [])
       small p zero = tt
       small p (suc zero) = tt
       small p (suc (suc zero)) = tt

@@ -1,6 +1,6 @@
 -- The invariant of a run.
 use Rattle.std.proofs.Common.{◌≡◌, ℕ, ◌+◌, ◌^◌, ◌<◌, ◌≤◌, ◌⊎◌, List, [], ◌∷◌, map, get_or}
-use Rattle.std.specs.List.{AllByRecursion as All}
+use Rattle.std.specs.List.{AllByRecursion}
 use Rattle.schedule.specs.Plan.{Plan, flow_count, hop_count, release_of, port_at, offset_at, wire_of, delay_of, early_at}
 use Rattle.gates.specs.Timetable.{Transition}
 use Rattle.egress.specs.declared.ordinary.Frame.{Frame}
@@ -56,7 +56,7 @@ module _ (P : Plan) (B : ℕ) (tr : Transition) (ρ : ℕ → ℕ → ℕ) where
 
   -- no frame of a line is longer than a frame may be
   abbrev pub Short : List Frame → Type 0
-  Short l = All (λ (x : Frame). x.octets ≤ 1522) l
+  Short l = AllByRecursion (λ (x : Frame). x.octets ≤ 1522) l
 
   pub record Inv {S : Type 0} (n : Core S) : Type 0 where
     pub base : B ≤ n.now
@@ -67,4 +67,4 @@ module _ (P : Plan) (B : ℕ) (tr : Transition) (ρ : ℕ → ℕ → ℕ) where
     pub small : (p c : ℕ) → Short (get_or (n.port p).ordinary c [])
     pub absent : (f : ℕ) → flow_count P ≤ f → n.flight f ≡ Idle
     pub once : (f : ℕ) → f < flow_count P → n.accepted f ≡ due (n.flight f) (map (λ (d : ℕ × ℕ). d.0) (n.arrived f))
-    pub on_time : (f : ℕ) → f < flow_count P → All (λ (d : ℕ × ℕ). OnTime P ρ f d.0 d.1) (n.arrived f)
+    pub on_time : (f : ℕ) → f < flow_count P → AllByRecursion (λ (d : ℕ × ℕ). OnTime P ρ f d.0 d.1) (n.arrived f)

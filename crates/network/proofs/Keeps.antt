@@ -1,6 +1,6 @@
 -- A tick keeps the invariant, and does to a flow what a closed form says.
 use Rattle.std.proofs.Common.{◌≡◌, ℕ, zero, suc, ◌+◌, ◌-◌, ◌^◌, ◌<◌, ◌≤◌, Bool, true, false, cond, not, ◌&&◌, eqb, ltb, leb, ◌⊎◌, List, [], ◌∷◌, ◌++◌, map, get_or, take, Some, None, Option, sym, refl, ap, ◌∙◌, subst, inl, inr, arith}
-use Rattle.std.specs.List.{AllByRecursion as All}
+use Rattle.std.specs.List.{AllByRecursion}
 use Rattle.std.proofs.lemmas.Bool.{cases_order, cases_Bool, cases_lt, cases_eq, and_parts, ltb-false, eqb-true, le-leb, lt-leb, lt-ltb, eq-eqb, ne_eqb, le-ltb, both_ways, not-true, cond-true, cond-false, false≢true}
 use Rattle.schedule.specs.Plan.{Plan, flow_count, hop_count, release_of, port_at, offset_at, wire_of, delay_of}
 use Rattle.gates.specs.Timetable.{Transition, timetable}
@@ -201,8 +201,8 @@ module _ (P : Plan) (B : ℕ) (tr : Transition) (ρ : ℕ → ℕ → ℕ) (F : 
       by true false = refl
       by false c = refl
 
-  on_time_landed : (t f : ℕ) → t < 2 ^ 48 → f < flow_count P → (x : Flight) → FlightOk P B tr ρ t t f x → (l : List (ℕ × ℕ)) → All (λ (d : ℕ × ℕ). OnTime P ρ f d.0 d.1) l
-      → All (λ (d : ℕ × ℕ). OnTime P ρ f d.0 d.1) (logged P t f x l)
+  on_time_landed : (t f : ℕ) → t < 2 ^ 48 → f < flow_count P → (x : Flight) → FlightOk P B tr ρ t t f x → (l : List (ℕ × ℕ)) → AllByRecursion (λ (d : ℕ × ℕ). OnTime P ρ f d.0 d.1) l
+      → AllByRecursion (λ (d : ℕ × ℕ). OnTime P ρ f d.0 d.1) (logged P t f x l)
   on_time_landed t f lim fi Idle ok l a = a
   on_time_landed t f lim fi (Waiting h u) ok l a = a
   on_time_landed t f lim fi (Moving h u r) m l a = elim (cases_Bool (eqb r t && not (has_next P f h))) [

@@ -1,6 +1,6 @@
 -- What the guarantee supposes, from the types and laws of real plans, selections and clocks.
 use Rattle.std.proofs.Common.{◌≡◌, ℕ, zero, suc, ◌+◌, ◌/◌, ◌%◌, ◌^◌, ◌<◌, ◌≤◌, List, [], ◌∷◌, Option, sym, inl, inr, arith}
-use Rattle.std.specs.List.{AllByRecursion as All}
+use Rattle.std.specs.List.{AllByRecursion}
 use Rattle.std.proofs.lemmas.Bool.{cases_lt, cases_eq}
 use Rattle.schedule.specs.declared.draft.Draft.{Draft}
 use Rattle.schedule.specs.declared.checked.CheckedPlan.{CheckedPlan}
@@ -45,7 +45,7 @@ module _ {S : Type 0} (may : ℕ) (held : S → ℕ) (pick : S → ℕ → Optio
   lawful_of = record { spares = λ s i. spares may spared ((within s).among 7 i); picks = picks }
 
 module _ {K : Type 0} (reading : K → ℕ → ℕ) (bound : K → ℕ) (near : (k : K) (t : ℕ) → bound k ≤ t → t ≤ 2 ^ 48 → Near (bound k) t (reading k t)) (error : ℕ) where
-  pub all_near : (ks : List K) → All (λ k. bound k ≤ error) ks → ClocksNear error (reads reading ks)
+  pub all_near : (ks : List K) → AllByRecursion (λ k. bound k ≤ error) ks → ClocksNear error (reads reading ks)
   all_near [] all p t lo hi = record { late = omega arith; early = omega arith }
   all_near (k ∷ ks) all zero t lo hi = let n = near k t (omega arith) hi in record { late = omega arith; early = omega arith }
   all_near (k ∷ ks) all (suc p) t lo hi = all_near ks all.1 p t lo hi

@@ -1,6 +1,6 @@
 -- The promises of two networks newly started, from the guarantee and from what the tables show.
 use Rattle.std.proofs.Common.{◌≡◌, ℕ, zero, suc, ◌^◌, ◌<◌, ◌≤◌, Bool, true, false, cond, ◌&&◌, eqb, leb, List, [], ◌∷◌, map, length, get_or, take, Some, None, Option, sym, refl, ap, ◌∙◌, subst, arith}
-use Rattle.std.specs.List.{AllByRecursion as All}
+use Rattle.std.specs.List.{AllByRecursion}
 use Rattle.std.proofs.lemmas.Bool.{and_parts, leb-true, eqb-true}
 use Rattle.schedule.specs.Plan.{Plan, flow_count}
 use Rattle.schedule.specs.Limits.{within}
@@ -30,7 +30,7 @@ none_fault : (v : Option ℕ) → clock_fault v ≡ None → v ≡ None
 none_fault None e = refl
 none_fault (Some p) e = let z : ◌≡◌ {A = ℕ} 0 1 = cc in absurd (omega arith)
 
-none_above : {K : Type 0} (bound : K → ℕ) (error k : ℕ) (ks : List K) → first_above error k (map bound ks) ≡ None → All (λ (x : K). bound x ≤ error) ks
+none_above : {K : Type 0} (bound : K → ℕ) (error k : ℕ) (ks : List K) → first_above error k (map bound ks) ≡ None → AllByRecursion (λ (x : K). bound x ≤ error) ks
 none_above bound error k [] e = tt
 none_above bound error k (x ∷ ks) e =
     let (a, b) = unrefused (leb (bound x) error) (first_above error (suc k) (map bound ks)) k e in
@@ -41,7 +41,7 @@ pub record Starts {K : Type 0} (bound : K → ℕ) (P : Plan) (B : ℕ) (ks : Li
   pub counted : count ≡ port_count P
   pub low : P.error ≤ B
   pub high : B ≤ 2 ^ 47
-  pub bounded : All (λ (x : K). bound x ≤ P.error) ks
+  pub bounded : AllByRecursion (λ (x : K). bound x ≤ P.error) ks
 
 pub starts : {K : Type 0} (bound : K → ℕ) (P : Plan) (B : ℕ) (ks : List K) (count : ℕ) → start_refused P B (map bound ks) count ≡ None → Starts bound P B ks count
 starts bound P B ks count e =
@@ -61,7 +61,7 @@ get_d_any [] p d e h = absurd (omega arith)
 get_d_any (x ∷ xs) zero d e h = refl
 get_d_any (x ∷ xs) (suc p) d e h = get_d_any xs p d e (omega arith)
 
-module _ {K : Type 0} (reading : K → ℕ → ℕ) (bound : K → ℕ) (near : (error : ℕ) (ks : List K) → All (λ k. bound k ≤ error) ks → ClocksNear error (reads reading ks)) where
+module _ {K : Type 0} (reading : K → ℕ → ℕ) (bound : K → ℕ) (near : (error : ℕ) (ks : List K) → AllByRecursion (λ k. bound k ≤ error) ks → ClocksNear error (reads reading ks)) where
   module _ {S : Type 0} (X : Meaning S) (law : Lawful X) (ks : List K) (n : Network (Tables S)) (cs : List Call) (fits : AllFit cs)
       (n' : Network (Tables S)) (rs : List Reply) (state : n' ≡ run (tables (reads reading ks) X) cs n) (replied : rs ≡ replies (tables (reads reading ks) X) cs n) where
     abbrev ρ : ℕ → ℕ → ℕ

@@ -1,6 +1,6 @@
 -- What is promised of every run: punctual, clear windows, isolated.
 use Rattle.std.specs.Prelude.{◌≡◌, ℕ, suc, ◌+◌, ◌^◌, ◌<◌, ◌≤◌, Bool, true, false, cond, List, [], ◌∷◌, map, ◌==◌, ◌≢◌}
-use Rattle.std.specs.List.{AllByRecursion as All}
+use Rattle.std.specs.List.{AllByRecursion}
 use Rattle.schedule.specs.Plan.{Plan, flow_count, hop_count, release_of, offset_at, port_at, wire_of, delay_of, certificate_of}
 use Rattle.gates.specs.Timetable.{Transition, steady, pending, replaced, hold_from, timetable}
 use Rattle.network.specs.declared.flight.Flight.{Flight}
@@ -47,7 +47,7 @@ InTime P t f (Moving h u a) = t ≤ u + (certificate_of P f).1
 -- flow f is punctual: each frame accepted is the one in the network or has been delivered, once; each was on time; and the one in the network still can be
 pub record Punctual (P : Plan) (ρ : ℕ → ℕ → ℕ) {S : Type 0} (n : Core S) (f : ℕ) : Type 0 where
   pub each_once : n.accepted f ≡ due (n.flight f) (map (λ (d : ℕ × ℕ). d.0) (n.arrived f))
-  pub on_time : All (λ (d : ℕ × ℕ). OnTime P ρ f d.0 d.1) (n.arrived f)
+  pub on_time : AllByRecursion (λ (d : ℕ × ℕ). OnTime P ρ f d.0 d.1) (n.arrived f)
   pub in_time : InTime P n.now f (n.flight f)
 
 -- the windows are clear: no port has a frame of an ordinary class on its wire at a busy tick, from the tick run last on
@@ -79,7 +79,7 @@ BringsFit settle = Unit {0}
 
 -- each change of a list does
 abbrev pub AllFit : List Call → Type 0
-AllFit cs = All BringsFit cs
+AllFit cs = AllByRecursion BringsFit cs
 
 -- the calls that are neither ordinary offers nor offers of flows other than f
 abbrev pub keeps : ℕ → Call → Bool

@@ -1,6 +1,6 @@
 // What the guarantee supposes holds of every plan that passed the check, and of every selection and clock by the laws of its kind.
 ghost use Rattle.std.specs.Prelude.{ℕ, ◌≤◌, List};
-ghost use Rattle.std.specs.List.{AllByRecursion as All};
+ghost use Rattle.std.specs.List.{AllByRecursion};
 ghost use Rattle.schedule.specs.Checks.{checked_plan};
 ghost use Rattle.network.specs.Lawful.{Fit, ClocksNear, Lawful, meaning};
 ghost use Rattle.network.specs.Tables.{reads};
@@ -25,7 +25,7 @@ pub fn selection_is_lawful<S: Selection>() -> u8
 
 // Clocks of any kind are near, if the bound of each is at most the error.
 pub fn clocks_are_near<K: Clock>() -> u8
-    ensures { (error : ℕ) (ks : List K) → All (λ k. K.Clock.bound k ≤ error) ks → ClocksNear error (reads K.Clock.reading ks) }
+    ensures { (error : ℕ) (ks : List K) → AllByRecursion (λ k. K.Clock.bound k ≤ error) ks → ClocksNear error (reads K.Clock.reading ks) }
 {
     0
 }

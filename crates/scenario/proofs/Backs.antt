@@ -1,6 +1,6 @@
 -- A line that is written is read back.
 use Rattle.std.proofs.Common.{◌≡◌, ℕ, ◌^◌, ◌<◌, Bool, true, false, not, ◌&&◌, ◌||◌, eqb, List, [], ◌∷◌, ◌++◌, map, length, Some, Ok, codes, decimal, Result, sym, refl, ap, ◌∙◌, ⊎_elim, append_assoc, append-nil, arith, rules}
-use Rattle.std.specs.List.{AllByRecursion as All}
+use Rattle.std.specs.List.{AllByRecursion}
 use Rattle.std.specs.Str.{bytes_eq}
 use Rattle.std.proofs.lemmas.Fmt.{decimal_nonempty, digits_decimal, digits_value-decimal}
 use Rattle.std.proofs.lemmas.Slice.Eq.{bytes_eq-Decides}
@@ -77,12 +77,12 @@ number_proper : (n : ℕ) → n < 2 ^ 64 → proper (decimal n) ≡ true
 number_proper n lt = some_proper (decimal n) (decimal_nonempty n lt) (digits_decimal own n lt)
 
 -- of two lists joined, each
-all_parts : (xs ys : List ℕ) → All (λ n. n < 2 ^ 64) (xs ++ ys) → All (λ n. n < 2 ^ 64) xs × All (λ n. n < 2 ^ 64) ys
+all_parts : (xs ys : List ℕ) → AllByRecursion (λ n. n < 2 ^ 64) (xs ++ ys) → AllByRecursion (λ n. n < 2 ^ 64) xs × AllByRecursion (λ n. n < 2 ^ 64) ys
 all_parts [] ys h = (tt, h)
 all_parts (x ∷ xs) ys h = let rest = all_parts xs ys h.1 in ((h.0, rest.0), rest.1)
 
 -- a list of numbers to the end of the line
-numerals_back : (ns : List ℕ) → All (λ n. n < 2 ^ 64) ns → numerals (map decimal ns) ≡ Ok ns
+numerals_back : (ns : List ℕ) → AllByRecursion (λ n. n < 2 ^ 64) ns → numerals (map decimal ns) ≡ Ok ns
 numerals_back [] h = refl
 numerals_back (n ∷ ns) h =
     ap (λ r. ◌then◌ r (λ m. ◌then◌ (numerals (map decimal ns)) (λ ms. Ok (m ∷ ms)))) (number_back n h.0) ∙ ap (λ r. ◌then◌ r (λ ms. Ok (n ∷ ms))) (numerals_back ns h.1)
@@ -103,13 +103,13 @@ abbrev in_front_until : List ℕ → List ℕ × List Word → Result (List ℕ 
 in_front_until xs q = Ok (xs ++ q.0, q.1)
 
 -- a list of numbers up to a keyword
-until_back : (k : Word) (ns : List ℕ) (ws : List Word) → digits k ≡ false → All (λ n. n < 2 ^ 64) ns → numerals_until k (map decimal ns ++ k ∷ ws) ≡ Ok (ns, ws)
+until_back : (k : Word) (ns : List ℕ) (ws : List Word) → digits k ≡ false → AllByRecursion (λ n. n < 2 ^ 64) ns → numerals_until k (map decimal ns ++ k ∷ ws) ≡ Ok (ns, ws)
 until_back k [] ws no_number h = cond-true _ _ _ (same_self k)
 until_back k (n ∷ ns) ws no_number h =
     cond-false _ _ _ (other_word n k h.0 no_number) ∙ ap (λ r. ◌then◌ r (λ m. ◌then◌ (numerals_until k (map decimal ns ++ k ∷ ws)) (in_front_until (m ∷ [])))) (number_back n h.0) ∙ ap (λ r. ◌then◌ r (in_front_until (n ∷ []))) (until_back k ns ws no_number h.1)
 
 -- the words that are written are read as what they were written for
-words_back : (a : Asked) → All (λ n. n < 2 ^ 64) (numbers_in a) → words_form (spelled a) ≡ Ok (Some a)
+words_back : (a : Asked) → AllByRecursion (λ n. n < 2 ^ 64) (numbers_in a) → words_form (spelled a) ≡ Ok (Some a)
 words_back (opens c e x ds) h =
     simp (number_back c h.0, number_back e h.1.0, number_back x h.1.1.0, numerals_back ds h.1.1.1)
 words_back (places r n l ps) h =
@@ -122,16 +122,16 @@ words_back (certifies f) h = simp (number_back f h.0)
 words_back (shows_gates p) h = simp (number_back p h.0)
 
 -- numbers are words that can stand on a line
-proper_numbers : (ns : List ℕ) (ws : List Word) → All (λ n. n < 2 ^ 64) ns → AllProper ws → AllProper (map decimal ns ++ ws)
+proper_numbers : (ns : List ℕ) (ws : List Word) → AllByRecursion (λ n. n < 2 ^ 64) ns → AllProper ws → AllProper (map decimal ns ++ ws)
 proper_numbers [] ws h more = more
 proper_numbers (n ∷ ns) ws h more = (number_proper n h.0, proper_numbers ns ws h.1 more)
 
-proper_list : (ns : List ℕ) → All (λ n. n < 2 ^ 64) ns → AllProper (map decimal ns)
+proper_list : (ns : List ℕ) → AllByRecursion (λ n. n < 2 ^ 64) ns → AllProper (map decimal ns)
 proper_list [] h = tt
 proper_list (n ∷ ns) h = (number_proper n h.0, proper_list ns h.1)
 
 -- and so are all words that are written
-words_proper : (a : Asked) → All (λ n. n < 2 ^ 64) (numbers_in a) → AllProper (spelled a)
+words_proper : (a : Asked) → AllByRecursion (λ n. n < 2 ^ 64) (numbers_in a) → AllProper (spelled a)
 words_proper (opens c e x ds) h =
     (refl, (refl, (number_proper c h.0, (refl, (number_proper e h.1.0, (refl, (number_proper x h.1.1.0, (refl, proper_list ds h.1.1.1))))))))
 words_proper (places r n l ps) h =

@@ -1,6 +1,6 @@
 -- What is asked for, written as a line.
 use Rattle.std.specs.Prelude.{◌≡◌, ℕ, ◌^◌, ◌<◌, List, [], ◌∷◌, ◌++◌, map, Some, Ok, codes, decimal}
-use Rattle.std.specs.List.{AllByRecursion as All}
+use Rattle.std.specs.List.{AllByRecursion}
 use Rattle.scenario.specs.Lines.{Word, Asked, opens, places, adds, checks, certifies, shows_gates, line_form}
 
 -- the words of the line; `decimal n` is what a program prints of the number n
@@ -28,4 +28,4 @@ spaced (w ∷ ws) = w ++ 32 ∷ spaced ws
 
 -- whatever is asked for, of numbers that 64 bits hold, can be written: its line is read as just that
 abbrev pub ReadsBack : Type 0
-ReadsBack = (a : Asked) → All (λ n. n < 2 ^ 64) (numbers_in a) → line_form (spaced (spelled a)) ≡ Ok (Some a)
+ReadsBack = (a : Asked) → AllByRecursion (λ n. n < 2 ^ 64) (numbers_in a) → line_form (spaced (spelled a)) ≡ Ok (Some a)

@@ -2,7 +2,7 @@
 ghost use Rattle.std.specs.Prelude.{◌≡◌, ◌<◌};
 ghost use Rattle.schedule.specs.Plan.{HasHop, flow_count, hop_count};
 ghost use Rattle.schedule.specs.Checks.{checked_plan};
-ghost use Rattle.gates.specs.Scan.{nearer as nearer-edge, octet_with, stretch_with, stretch_at, stretch_hops, stretch_after};
+ghost use Rattle.gates.specs.Scan.{nearer as nearer_edge, octet_with, stretch_with, stretch_at, stretch_hops, stretch_after};
 
 use schedule::checked::CheckedPlan;
 use schedule::limits::FRAME_OVERHEAD;
@@ -21,7 +21,7 @@ pub struct Stretch {
 }
 
 fn nearer(tick: u64, edge: u64, next: u64) -> u64
-    ensures { result ≡ nearer-edge tick edge next }
+    ensures { result ≡ nearer_edge tick edge next }
 {
     if tick < edge && edge < next {
         edge
