@@ -175,7 +175,7 @@ impl Draft {
     // Whether two windows of one port stand apart.
     pub(crate) fn is_apart(&self, flow: usize, hop: usize, other: usize, place: usize) -> bool
         requires has_hop { HasHop (plan_of self.now) flow hop }
-        requires has_hop_2 { HasHop (plan_of self.now) other place }
+        requires has_place { HasHop (plan_of self.now) other place }
         ensures { Decides result (Apart (plan_of self.now) flow hop other place) }
     {
         let offset = self.window(flow, hop).offset;
@@ -192,7 +192,7 @@ impl Draft {
     // The first window of another flow that is too close to a window.
     fn close_in_flow(&self, flow: usize, hop: usize, other: usize) -> Option<usize>
         requires has_hop { HasHop (plan_of self.now) flow hop }
-        requires other_lt_flow { other < flow }
+        requires is_lower { other < flow }
         ensures { MatchOption result (ApartFrom (plan_of self.now) flow hop other) (TooClose (plan_of self.now) flow hop other) }
     {
         let port = self.window(flow, hop).port;
