@@ -4,9 +4,9 @@
 usage: python3 tools/respell.py [TOP]      rewrites the .antt and .rt files below TOP/crates, the tree that port.py left
 
 A name is the repository's own if a file of specs/ or proofs/ brings it in: a definition, a lemma, a field, a
-constructor, a parameter or a variable. In README.md and docs/ the names between backquotes follow. Names of the library keep their spelling, and so do those that the check makes
+constructor, a parameter or a variable. Names of the library keep their spelling, and so do those that the check makes
 of a function's code (they are answers to a goal, or come from a module Goals or Given). In source files only clauses
-and ghost items have such names. Comments and strings stay.
+and ghost items have such names. Comments and strings stay. In README.md and docs/ the names between backquotes follow.
 """
 
 import os
@@ -66,7 +66,7 @@ def respelled(name):
 
 
 def own_names(texts):
-    foreign, made, seen, dotted = set(), set(), set(), set()
+    foreign, made, seen = set(), set(), set()
     for path, text in texts.items():
         for m in FOREIGN.finditer(text):
             foreign |= {w.split(" as ")[0].strip() for w in m.group(2).split(",")}
@@ -78,8 +78,13 @@ def own_names(texts):
         for m in AFTER_GOAL.finditer(text):
             made |= set(m.group(1).split("."))
         for m in TOKEN.finditer(text):
-            (dotted if text[m.start() - 1 : m.start()] == "." else seen).add(m.group())
+            if text[m.start() - 1 : m.start()] != ".":
+                seen.add(m.group())
     return {n for n in seen if n not in foreign and n not in made}
+
+
+def turned(text, own):
+    return TOKEN.sub(lambda m: respelled(m.group()) if m.group() in own else m.group(), text)
 
 
 def main(top):
@@ -90,14 +95,14 @@ def main(top):
     bare = {path: code(path, text) for path, text in texts.items()}
     own = own_names(bare)
     for path, text in texts.items():
-        out = "".join(TOKEN.sub(lambda m: respelled(m.group()) if m.group() in own else m.group(), p) if is_code else p for is_code, p in pieces(text, path.endswith(".rt")))
+        out = "".join(turned(p, own) if is_code else p for is_code, p in pieces(text, path.endswith(".rt")))
         if out != text:
             with open(path, "w", encoding="utf-8") as f:
                 f.write(out)
     for path in pages(top):
         with open(path, encoding="utf-8") as f:
             text = f.read()
-        out = re.sub(r"`[^`\n]*`", lambda q: TOKEN.sub(lambda m: respelled(m.group()) if m.group() in own else m.group(), q.group()), text)
+        out = re.sub(r"`[^`\n]*`", lambda q: turned(q.group(), own), text)
         if out != text:
             with open(path, "w", encoding="utf-8") as f:
                 f.write(out)

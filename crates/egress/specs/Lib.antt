@@ -9,4 +9,3 @@ pub mod ClockLemmas
 pub mod Settings
 pub mod Figures
 pub mod Masks
-pub mod ShaperSelectionLemmas

@@ -1,5 +1,5 @@
 -- Bits of sets of classes, and that replying the highest class left is a selection.
-use Rattle.std.specs.Prelude.{◌≡◌, ℕ, zero, suc, ◌+◌, ◌-◌, ◌/◌, ◌%◌, ◌^◌, ◌<◌, ◌≤◌, min, max, Some, None, Option, ◌==◌, ◌≢◌, bit_and, bit_or}
+use Rattle.std.specs.Prelude.{◌≡◌, ℕ, zero, suc, ◌+◌, ◌-◌, ◌/◌, ◌%◌, ◌^◌, ◌<◌, ◌≤◌, min, max, Some, None, Option, ◌==◌, ◌≢◌, bit_and, bit_or, Bool, true, false, cond}
 use Rattle.std.proofs.Common.{sym, ap, subst, ◌∙◌, ⊎_elim, mod-eq_of_lt, pow-suc, arith, lit<}
 use Rattle.std.proofs.Math.Nat.{zero-div}
 use Rattle.std.specs.Int.Bits.{and_step, or_step}
@@ -39,9 +39,11 @@ in_left a h c b l p = let e = and_bit a (255 - h) c in let r = rest_bit h b c l 
 left_in : (a h c : ℕ) → h < 256 → c < 8 → In c a → (In c h → ⊥) → In c (left a h)
 left_in a h c b l p q = let e = and_bit a (255 - h) c in let r = rest_bit h b c l in ⊎_elim (λ z. absurd (q z)) (λ z. omega arith) (cases_eq ((h / 2 ^ c) % 2) 1)
 
+-- a set with no class has no highest one
 pub highest_none : (m : ℕ) → m ≡ 0 → highest m ≡ None
 highest_none m e = cond-true (m == 0) _ _ (eq-eqb m 0 e)
 
+-- a set with a class has a highest one, by its leading zeros
 pub highest_some : (m : ℕ) → (m ≢ 0) → highest m ≡ Some (7 - count_leading_zeros 8 m)
 highest_some m e = cond-false (m == 0) _ _ (ne_eqb m 0 e)
 
@@ -54,6 +56,7 @@ top_in m p b =
     let q : m / 2 ^ j ≡ 1 = ap (λ n. n / 2 ^ j) (omega arith) ∙ div-mul-add 1 (2 ^ j) (m - 2 ^ j) (omega arith) in
     (omega arith, subst (λ c. In c m) (sym e) (ap (λ n. n % 2) q))
 
+-- no class is in the set with none
 pub in_none : (c : ℕ) → In c 0 → ⊥
 in_none c h = let z : 0 / 2 ^ c ≡ 0 = zero-div (2 ^ c) in omega (arith, ap (λ n. n % 2) z)
 
@@ -81,20 +84,30 @@ module _ (h : ℕ) (pick : ℕ → Option ℕ) (b : h < 256) (is : (a : ℕ) →
         (cases_eq (left a h) 0);
   }
 
+-- where none is held back, all are left
 pub left_none : (a : ℕ) → a < 256 → left a 0 ≡ a
 left_none a l = and_mask a 8 ∙ mod-eq_of_lt l
 
 or_low : (a b : ℕ) → bit_or a b % 2 ≡ max (a % 2) (b % 2)
 or_low a b = let s = or_step a b in omega arith
 
+-- a class of either set is in their join
 pub in_or_l : (c m n : ℕ) → In c m → In c (bit_or m n)
 in_or_l c m n h =
     let e : (bit_or m n / 2 ^ c) % 2 ≡ max ((m / 2 ^ c) % 2) ((n / 2 ^ c) % 2) = ap (λ x. x % 2) (or_shr m n c) ∙ or_low (m / 2 ^ c) (n / 2 ^ c) in
     omega arith
 
+-- likewise from the other side
 pub in_or_r : (c m n : ℕ) → In c n → In c (bit_or m n)
 in_or_r c m n h = subst (In c) (or_comm n m) (in_or_l c n m h)
 
 -- no class is held back
 pub none_within : Within 0 0
 none_within = record { mask = lit< tt; among = λ c h. h }
+
+-- a shaper holds back only classes of its mask: 6 and 5, each held back or not
+pub held_within : (x y : Bool) → Within (cond x 64 0 + cond y 32 0) 96
+held_within true true = record { mask = lit< tt; among = λ c h. h }
+held_within true false = record { mask = lit< tt; among = λ c h. in_or_l c 64 32 h }
+held_within false true = record { mask = lit< tt; among = λ c h. in_or_r c 64 32 h }
+held_within false false = record { mask = lit< tt; among = λ c h. absurd (in_none c h) }

@@ -3,8 +3,7 @@ ghost use Rattle.std.specs.Prelude.{◌≡◌, ℕ, ◌<◌, ℤ, pos, Option, i
 ghost use Rattle.egress.specs.Mask.{has, sends, left, highest};
 ghost use Rattle.egress.specs.Credit.{credited, credit_of, held_back, passed_on};
 ghost use Rattle.egress.specs.Settings.{slope_fits, MadeShaper};
-ghost use Rattle.egress.specs.ShaperSelectionLemmas.{held_within};
-ghost use Rattle.egress.specs.Masks.{highest_picks};
+ghost use Rattle.egress.specs.Masks.{highest_picks, held_within};
 ghost use Rattle.std.proofs.Common.{lit<};
 
 use crate::selection::Selection;

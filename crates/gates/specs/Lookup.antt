@@ -26,11 +26,12 @@ held_from C B T = T - (T - B) % C
 unfoldable pub lists_octet : List GateEntry → ℕ → ℕ → List GateEntry → ℕ → ℕ → ℕ → ℕ
 lists_octet es C B fs D T l = cond (nat_le T l) (list_octet fs D T l) (cond (nat_le (held_from C B T) l) (last_octet es) (list_octet es C B l))
 
--- the octet of a timetable at tick l
+-- the octet at tick l of a list with its base, and of the next list if there is one
 abbrev pub octets_with : GateList → ℕ → Option NextList → ℕ → ℕ
 octets_with a B None = list_octet (vec_items a.entries) a.cycle B
 octets_with a B (Some n) = lists_octet (vec_items a.entries) a.cycle B (vec_items n.list.entries) n.list.cycle n.from
 
+-- the octet of a timetable at tick l
 unfoldable pub octets : Timetable → ℕ → ℕ
 octets t = octets_with t.list t.base t.next
 
@@ -56,6 +57,7 @@ unfoldable pub lists_span : List GateEntry → ℕ → ℕ → List GateEntry �
 lists_span es C B fs D T l =
     cond (nat_le T l) (list_span fs D T l) (cond (nat_le (held_from C B T) l) (record { octet = last_octet es; ticks = T - l }) (cut_to (held_from C B T - l) (list_span es C B l)))
 
+-- the span at tick l of a list with its base, and of the next list if there is one
 abbrev pub span_with : GateList → ℕ → Option NextList → ℕ → Span
 span_with a B None = list_span (vec_items a.entries) a.cycle B
 span_with a B (Some n) = lists_span (vec_items a.entries) a.cycle B (vec_items n.list.entries) n.list.cycle n.from
@@ -93,11 +95,12 @@ pub record Counts (os : ℕ → ℕ) (l c n r : ℕ) : Type 0 where
 abbrev pub followed_by : Timetable → GateList → ℕ → Timetable
 followed_by t a T = record { list = t.list; base = t.base; next = Some (record { list = a; from = T }) }
 
--- a timetable whose next list, if there is one, has taken the place of the first
+-- a timetable in which that next list, if there is one, has taken the place of the first
 abbrev pub settled_with : Timetable → Option NextList → Timetable
 settled_with t None = t
 settled_with t (Some n) = record { list = n.list; base = n.from; next = None }
 
+-- a timetable whose own next list has
 abbrev pub settled : Timetable → Timetable
 settled t = settled_with t t.next
 
@@ -106,6 +109,7 @@ abbrev pub released_with : GateList → Option NextList → Option GateList
 released_with a None = None
 released_with a (Some n) = Some a
 
+-- likewise of a timetable
 abbrev pub released : Timetable → Option GateList
 released t = released_with t.list t.next
 

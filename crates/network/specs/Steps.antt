@@ -37,10 +37,11 @@ ready P octets l x c = available P octets l x c
 unfoldable pub joining : Plan → ℕ → List Row → ℕ → {S : Type 0} → Port S → Port S
 joining P t rows p x = joined P t (length rows) (flight_in rows) p x
 
--- step 2: the choice, and what it does
+-- step 2: the class that is chosen
 unfoldable pub choosing : Plan → (ℕ → ℕ) → {S : Type 0} → Meaning S → ℕ → ℕ → Port S → Option ℕ
 choosing P octets K t l x = chosen P octets K t l x
 
+-- and what the choice does to the port
 unfoldable pub sending : Plan → ℕ → {S : Type 0} → Port S → Option ℕ → Port S
 sending P t x c = sent P t x c
 

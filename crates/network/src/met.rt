@@ -9,23 +9,17 @@ use egress::clock::Clock;
 use egress::selection::Selection;
 use schedule::checked::CheckedPlan;
 
-// A plan that passed the check is fit.
-pub fn checked_plan_is_fit(plan: &CheckedPlan) -> u8
+/// A plan that passed the check is fit.
+pub fn checked_plan_is_fit(plan: &CheckedPlan)
     ensures { Fit (checked_plan plan.now) }
-{
-    0
-}
+{}
 
-// A selection of any kind is lawful.
-pub fn selection_is_lawful<S: Selection>() -> u8
+/// A selection of any kind is lawful.
+pub fn selection_is_lawful<S: Selection>()
     ensures { Lawful (meaning S.Selection.held S.Selection.pick S.Selection.passed) }
-{
-    0
-}
+{}
 
-// Clocks of any kind are near, if the bound of each is at most the error.
-pub fn clocks_are_near<K: Clock>() -> u8
+/// Clocks of any kind are near, if the bound of each is at most the error.
+pub fn clocks_are_near<K: Clock>()
     ensures { (error : ℕ) (ks : List K) → AllByRecursion (λ k. K.Clock.bound k ≤ error) ks → ClocksNear error (reads K.Clock.reading ks) }
-{
-    0
-}
+{}

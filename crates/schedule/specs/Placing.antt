@@ -58,10 +58,6 @@ Places d release octets deadline route (Err e) after =
     RefusalIs (place_refused (plan_of d) release octets deadline route) (NoneFit (plan_of d) release octets deadline route) (flow_number e)
     × (plan_of after ≡ plan_of d)
 
--- the plan with the flow behind the old ones, at the least offsets there are
-abbrev pub PlacedLeast : Plan → ℕ → ℕ → ℕ → List ℕ → Plan → Type 0
-PlacedLeast P release octets deadline route after = (offsets : List ℕ) × LeastPlacement P release octets deadline route offsets × (after ≡ with_flow P release octets deadline route offsets)
-
 -- hop by hop, the lesser of two offsets
 abbrev pub minima : List ℕ → List ℕ → List ℕ
 minima [] ys = []

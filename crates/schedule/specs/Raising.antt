@@ -5,11 +5,11 @@ use Rattle.schedule.specs.declared.refusal.FlowRefusal.{FlowRefusal}
 use Rattle.schedule.specs.declared.tables.Flow.{Flow}
 use Rattle.schedule.specs.declared.tables.Window.{Window}
 use Rattle.schedule.specs.Numbers.{flow_number}
-use Rattle.schedule.specs.Plan.{Plan, no_window, flow_at, hop_count, port_at, offset_at}
+use Rattle.schedule.specs.Plan.{Plan, no_window, flow_count, flow_at, hop_count, port_at, offset_at}
 use Rattle.schedule.specs.Rules.{FlowKeeps, Apart}
 use Rattle.schedule.specs.Held.{TablesHeld, FlowsHeld, StretchesHeld, WindowsHeld, RoutesHeld}
 use Rattle.schedule.specs.Drafts.{plan_of}
-use Rattle.schedule.specs.Placing.{NoneFit, place_refused, PlacedLeast}
+use Rattle.schedule.specs.Placing.{NoneFit, place_refused, Places}
 
 -- the plan with another window table
 abbrev pub retimed : Plan → List Window → Plan
@@ -70,11 +70,9 @@ rise_left cycle (w ∷ ws) = (cycle - w.offset) + rise_left cycle ws
 abbrev pub TablesKeep : ℕ → ℕ → List Flow → List Window → Type 0
 TablesKeep cycle ports flows windows = TablesHeld flows windows × FlowsHeld cycle flows × StretchesHeld flows windows × WindowsHeld cycle ports windows × RoutesHeld ports flows windows
 
--- a flow is kept at the least offsets there are, or there are none and the plan is as it was; a limit that refuses it leaves the draft the same value
+-- a flow is kept as placing keeps it, or there are no offsets and the plan is as it was; a limit that refuses it leaves the draft the same value
 abbrev pub KeepsLeast : Draft → ℕ → ℕ → ℕ → List ℕ → Result Bool FlowRefusal → Draft → Type 0
-KeepsLeast d release octets deadline route (Ok true) after =
-    (place_refused (plan_of d) release octets deadline route ≡ None)
-    × PlacedLeast (plan_of d) release octets deadline route (plan_of after)
+KeepsLeast d release octets deadline route (Ok true) after = Places d release octets deadline route (Ok (flow_count (plan_of d))) after
 KeepsLeast d release octets deadline route (Ok false) after =
     (place_refused (plan_of d) release octets deadline route ≡ None)
     × NoneFit (plan_of d) release octets deadline route

@@ -8,7 +8,7 @@ use Rattle.schedule.specs.declared.refusal.FlowRefusal.{FlowRefusal}
 use Rattle.schedule.specs.Numbers.{flow_number}
 use Rattle.schedule.specs.Plan.{Plan, flow_count}
 use Rattle.schedule.specs.Drafts.{plan_of, with_flow}
-use Rattle.schedule.specs.Placing.{place_refused, NoneFit, PlacedLeast}
+use Rattle.schedule.specs.Placing.{place_refused, NoneFit, Places}
 use Rattle.schedule.specs.Raising.{cut_back, Raises, Behind, TablesKeep, KeepsLeast}
 use Rattle.schedule.proofs.Adding.{routed_least, routed_most}
 use Rattle.schedule.proofs.Lowest.{lowest, lowest_zero, lowest_length, routed, place_passes, refused_by_limits}
@@ -18,9 +18,9 @@ use Rattle.schedule.proofs.draft.Draft.keep_least.Goals as goal
 
 -- a reply is one of the two
 either : (d : Draft) (release octets deadline : ℕ) (route : List ℕ) (kept : Bool) (after : Draft) → place_refused (plan_of d) release octets deadline route ≡ None
-    → (kept ≡ true → PlacedLeast (plan_of d) release octets deadline route (plan_of after))
+    → (kept ≡ true → Places d release octets deadline route (Ok (flow_count (plan_of d))) after)
     → (kept ≡ false → NoneFit (plan_of d) release octets deadline route × (plan_of after ≡ plan_of d)) → KeepsLeast d release octets deadline route (Ok kept) after
-either d release octets deadline route true after passes fits none = (passes, fits refl)
+either d release octets deadline route true after passes fits none = fits refl
 either d release octets deadline route false after passes fits none = (passes, (none refl).0, (none refl).1)
 
 pub returns-in_err-flow : goal.returns-in_err-flow
@@ -119,7 +119,7 @@ returns c =
     (λ kept.
     let (os, least, is) =
     placed p (d known).stretches r.release r.octets r.deadline (route (before known)) (hops_some (before known)) (zeros (before known)) (zeros_length (before known)) (lowest_zero c.trial_hops-hops.result) c.raise_offsets.result (plan_of (after known)) (raised known) kept in
-    (os, least, c.drop-trial.ensures ∙ cond-true _ _ _ kept ∙ is))
+    (place_passes p r.release r.octets r.deadline (route (before known)) c.trial_hops-hops.result c.in_ok-flow.ensures.0, refl, (os, least, c.drop-trial.ensures ∙ cond-true _ _ _ kept ∙ is)))
     (λ lost. (
       none_fit p (d known).stretches r.release r.octets r.deadline (route (before known)) (hops_some (before known)) (zeros (before known)) (zeros_length (before known)) (lowest_zero c.trial_hops-hops.result) c.raise_offsets.result (plan_of (after known)) (raised known) lost,
       c.drop-trial.ensures ∙ cond-false _ _ _ lost ∙ restored known,
