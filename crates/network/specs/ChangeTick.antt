@@ -3,7 +3,7 @@ use Rattle.std.specs.Prelude.{◌≡◌, ℕ, ◌+◌, ◌*◌, ◌<◌, ◌≤�
 use Rattle.schedule.specs.Plan.{Plan}
 use Rattle.network.specs.Calls.{change_tick}
 
--- T is the tick of a change that is called for at tick t, with A as its base is named and cycles of so many ticks: A and some whole cycles, not before t, and the least of those
+-- T is the tick of a change that is called for at tick t, of a plan with that cycle and with A named as its base: A and some whole cycles, not before t, and the least of those
 pub record LeastChange (t cycle A T : ℕ) : Type 0 where
   pub cycles : ℕ
   pub whole : T ≡ A + cycles * cycle
