@@ -34,7 +34,7 @@ module _ (cycle : ℕ) (route offsets : List ℕ) (spaced : offsets_allowed cycl
   spaced_length = eqb-true (length offsets) (length route) (and_parts (eqb (length offsets) (length route)) (each_below cycle offsets) spaced).0
 
   pub spaced_below : (i : ℕ) → i < length offsets → get_or offsets i 0 < cycle
-  spaced_below = each_below_at cycle offsets (and_parts (eqb (length offsets) (length route)) (each_below cycle offsets) spaced).1
+  spaced_below i = each_below_at cycle offsets (and_parts (eqb (length offsets) (length route)) (each_below cycle offsets) spaced).1 i 0
 
 module _ (ports : ℕ) (route : List ℕ) (routed : route_allowed ports route ≡ true) where
   pub routed_differ : ports_differ ports route ≡ true

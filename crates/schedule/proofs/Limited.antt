@@ -1,6 +1,7 @@
 -- What the tests of limits say of each number.
-use Rattle.std.proofs.Common.{◌≡◌, ℕ, zero, suc, ◌<◌, ◌≤◌, true, not, ◌&&◌, eqb, ltb, leb, List, [], ◌∷◌, length, get_or, arith}
+use Rattle.std.proofs.Common.{◌≡◌, ℕ, zero, suc, ◌<◌, ◌≤◌, true, not, ◌&&◌, eqb, ltb, leb, List, [], ◌∷◌, length, get_or, sym, arith}
 use Rattle.std.proofs.lemmas.Bool.{and_parts, or_left, or_right, ltb-true, leb-true, eq-eqb, not-true, both_ways}
+use Rattle.std.proofs.lemmas.List.Sums.{AllPass-from_list_all}
 use Rattle.schedule.specs.Limits.{within, each_below, among, ports_differ}
 
 pub within_low : (low high n : ℕ) → within low high n ≡ true → low ≤ n
@@ -9,10 +10,8 @@ within_low low high n e = leb-true low n (and_parts (leb low n) (leb n high) e).
 pub within_high : (low high n : ℕ) → within low high n ≡ true → n ≤ high
 within_high low high n e = leb-true n high (and_parts (leb low n) (leb n high) e).1
 
-pub each_below_at : (bound : ℕ) (ns : List ℕ) → each_below bound ns ≡ true → (i : ℕ) → i < length ns → get_or ns i 0 < bound
-each_below_at bound [] e i h = absurd (omega arith)
-each_below_at bound (n ∷ ns) e zero h = ltb-true n bound (and_parts (ltb n bound) (each_below bound ns) e).0
-each_below_at bound (n ∷ ns) e (suc i) h = each_below_at bound ns (and_parts (ltb n bound) (each_below bound ns) e).1 i (omega arith)
+pub each_below_at : (bound : ℕ) (ns : List ℕ) → each_below bound ns ≡ true → (i d : ℕ) → i < length ns → get_or ns i d < bound
+each_below_at bound ns e i d h = ltb-true (get_or ns i d) bound (AllPass-from_list_all (λ n. ltb n bound) ns e i d h)
 
 pub differ_at : (count : ℕ) (ps : List ℕ) → ports_differ count ps ≡ true → (i : ℕ) → i < length ps → get_or ps i 0 < count
 differ_at count [] e i h = absurd (omega arith)
@@ -24,8 +23,8 @@ differ_at count (p ∷ ps) e (suc i) h =
 -- a number that stands at a place is among them
 among_at : (ps : List ℕ) (i n : ℕ) → i < length ps → n ≡ get_or ps i 0 → among n ps ≡ true
 among_at [] i n h e = absurd (omega arith)
-among_at (p ∷ ps) zero n h e = or_left (eqb n p) (among n ps) (eq-eqb n p e)
-among_at (p ∷ ps) (suc i) n h e = or_right (eqb n p) (among n ps) (among_at ps i n (omega arith) e)
+among_at (p ∷ ps) zero n h e = or_left (eqb p n) (among n ps) (eq-eqb p n (sym e))
+among_at (p ∷ ps) (suc i) n h e = or_right (eqb p n) (among n ps) (among_at ps i n (omega arith) e)
 
 pub differ_apart : (count : ℕ) (ps : List ℕ) → ports_differ count ps ≡ true → (i j : ℕ) → i < j → j < length ps → get_or ps i 0 ≡ get_or ps j 0 → ⊥
 differ_apart count [] e i j l h q = absurd (omega arith)

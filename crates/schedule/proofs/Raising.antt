@@ -1,13 +1,10 @@
 -- What every solution says of a window that breaks a rule: how far its offset has to rise.
-use Rattle.std.proofs.Common.{◌≡◌, ℕ, zero, suc, ◌+◌, ◌-◌, ◌*◌, ◌<◌, ◌≤◌, List, [], ◌∷◌, map, get_or, sym, refl, ap, ◌∙◌, subst, inl, inr, arith}
+use Rattle.std.proofs.Common.{◌≡◌, ℕ, zero, suc, ◌+◌, ◌-◌, ◌*◌, ◌<◌, ◌≤◌, List, [], ◌∷◌, map, get_or, sym, refl, ap, ◌∙◌, inl, inr, arith}
 use Rattle.std.proofs.lemmas.List.{get_or-take}
 use Rattle.std.proofs.lemmas.Bool.{cases_lt}
 use Rattle.schedule.specs.declared.tables.Window.{Window}
-use Rattle.schedule.specs.declared.refusal.Fault.{Fault}
-use Rattle.schedule.specs.declared.refusal.Fault.TheVariants.{OffsetTooEarly, EndTooLate, ReachTooLate, DeliveryPastCycle, DeadlineMissed}
-use Rattle.schedule.specs.Numbers.{fault_place}
-use Rattle.schedule.specs.Plan.{Plan, HasHop, no_window, flow_at, window_at, hop_count, port_at, offset_at, delay_of, end_at, crossed_at, late_at, early_at}
-use Rattle.schedule.specs.Rules.{Guarded, EndsInCycle, ReachedInTime, DeliveredInCycle, MeetsDeadline, Apart, BrokenThere}
+use Rattle.schedule.specs.Plan.{Plan, no_window, flow_at, window_at, hop_count, port_at, offset_at, delay_of, end_at, crossed_at, late_at, early_at}
+use Rattle.schedule.specs.Rules.{Guarded, EndsInCycle, ReachedInTime, DeliveredInCycle, MeetsDeadline, Apart}
 use Rattle.schedule.specs.Raising.{retimed, Later, Behind, Solves, MustRise, Hopeless, TooClose}
 
 pub getD_map_all : {X Y : Type 0} (f : X → Y) (xs : List X) (i : ℕ) (d : X) → get_or (map f xs) i (f d) ≡ f (get_or xs i d)
@@ -135,23 +132,3 @@ module _ (P : Plan) (f h g k : ℕ) (has : h < hop_count P f) (behind : Behind P
             let c = early_next P f others s.0 p in
             omega arith;
       }
-
--- what each fault forces, of its flow
-module _ (P : Plan) (x : Fault) (f h : ℕ) (has : HasHop P (fault_place x).0 (fault_place x).1) (broken : BrokenThere P x) where
-  by_fault : (y : Fault) (Q : Fault → Type 0) → x ≡ y → (HasHop P (fault_place y).0 (fault_place y).1 → BrokenThere P y → Q y) → Q x
-  by_fault y Q e at = subst (λ (z : Fault). HasHop P (fault_place z).0 (fault_place z).1 → BrokenThere P z → Q z) (sym e) at has broken
-
-  pub forced_guard : x ≡ OffsetTooEarly f h → MustRise P (fault_place x).0 h (2 * P.error)
-  forced_guard e = by_fault (OffsetTooEarly f h) (λ (z : Fault). MustRise P (fault_place z).0 h (2 * P.error)) e (λ l b. rise_guard P f h l.1 b)
-
-  pub forced_reach : x ≡ ReachTooLate f h → MustRise P (fault_place x).0 h (late_at P f h + P.error)
-  forced_reach e = by_fault (ReachTooLate f h) (λ (z : Fault). MustRise P (fault_place z).0 h (late_at P f h + P.error)) e (λ l b. rise_reach P f h l.1 b.2)
-
-  pub forced_end : x ≡ EndTooLate f h → Hopeless P (fault_place x).0
-  forced_end e = by_fault (EndTooLate f h) (λ (z : Fault). Hopeless P (fault_place z).0) e (λ l b. hopeless_end P f h l.1 b.1)
-
-  pub forced_delivery : x ≡ DeliveryPastCycle f h → Hopeless P (fault_place x).0
-  forced_delivery e = by_fault (DeliveryPastCycle f h) (λ (z : Fault). Hopeless P (fault_place z).0) e (λ l b. hopeless_delivery P f h l.1 b.3)
-
-  pub forced_deadline : x ≡ DeadlineMissed f h → Hopeless P (fault_place x).0
-  forced_deadline e = by_fault (DeadlineMissed f h) (λ (z : Fault). Hopeless P (fault_place z).0) e (λ l b. hopeless_deadline P f h l.1 b.4)

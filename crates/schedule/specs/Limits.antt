@@ -1,5 +1,6 @@
 -- The limits of what a plan is made of, as tests, and the order in which a call makes them.
-use Rattle.std.specs.Prelude.{ℕ, Bool, true, false, cond, not, ◌&&◌, ◌||◌, List, [], ◌∷◌, length, Some, Option, ◌==◌, nat_le, nat_lt}
+use Rattle.std.specs.Prelude.{ℕ, Bool, true, cond, not, ◌&&◌, List, [], ◌∷◌, length, Some, Option, ◌==◌, nat_le, nat_lt}
+use Rattle.std.specs.List.{list_all, list_any}
 
 -- a check that failed refuses with its number n; else what the later checks say
 abbrev pub unless : Bool → ℕ → Option ℕ → Option ℕ
@@ -15,8 +16,7 @@ timing_allowed cycle error extension = within 1000 1250000 cycle && (nat_le erro
 
 -- each number is below the bound
 abbrev pub each_below : ℕ → List ℕ → Bool
-each_below bound [] = true
-each_below bound (n ∷ ns) = nat_lt n bound && each_below bound ns
+each_below bound ns = list_all (λ n. nat_lt n bound) ns
 
 -- there are 1 to 16 ports, and no delay is above 25,000
 abbrev pub ports_allowed : List ℕ → Bool
@@ -28,8 +28,7 @@ flow_allowed cycle release octets deadline = nat_lt release cycle && (within 64 
 
 -- n is one of the numbers
 abbrev pub among : ℕ → List ℕ → Bool
-among n [] = false
-among n (m ∷ ms) = n == m || among n ms
+among n ns = list_any (λ m. m == n) ns
 
 -- each port is below the count of ports, and none stands twice
 abbrev pub ports_differ : ℕ → List ℕ → Bool

@@ -6,8 +6,9 @@ use Rattle.schedule.specs.declared.refusal.FlowRefusal.{FlowRefusal}
 use Rattle.schedule.specs.declared.refusal.FlowRefusal.TheVariants.{DraftFull, FlowBeyondLimits, BadRoute, NoOffsets, BadOffsets}
 use Rattle.schedule.specs.declared.refusal.CertificateRefusal.{CertificateRefusal}
 use Rattle.schedule.specs.declared.refusal.CertificateRefusal.TheVariants.{AbsentFlow}
+use Rattle.schedule.specs.declared.refusal.BrokenRule.{BrokenRule}
+use Rattle.schedule.specs.declared.refusal.BrokenRule.TheVariants.{OffsetTooEarly, EndTooLate, ReachTooLate, DeliveryPastCycle, DeadlineMissed, WindowsTooClose}
 use Rattle.schedule.specs.declared.refusal.Fault.{Fault}
-use Rattle.schedule.specs.declared.refusal.Fault.TheVariants.{OffsetTooEarly, EndTooLate, ReachTooLate, DeliveryPastCycle, DeadlineMissed, WindowsTooClose}
 
 -- the number with which opening is refused; want of memory has none
 abbrev pub open_number : OpenRefusal → Option ℕ
@@ -27,20 +28,19 @@ flow_number BadOffsets = 5
 abbrev pub certificate_number : CertificateRefusal → ℕ
 certificate_number AbsentFlow = 22
 
--- the number of the rule that is broken
-abbrev pub fault_number : Fault → ℕ
-fault_number (OffsetTooEarly f h) = 11
-fault_number (EndTooLate f h) = 12
-fault_number (ReachTooLate f h) = 13
-fault_number (DeliveryPastCycle f h) = 14
-fault_number (DeadlineMissed f h) = 15
-fault_number (WindowsTooClose f h) = 16
+-- the number of a rule that is broken
+abbrev pub rule_number : BrokenRule → ℕ
+rule_number OffsetTooEarly = 11
+rule_number EndTooLate = 12
+rule_number ReachTooLate = 13
+rule_number DeliveryPastCycle = 14
+rule_number DeadlineMissed = 15
+rule_number WindowsTooClose = 16
 
--- the flow and the hop at which it is broken
+-- the number of a fault: that of its rule
+abbrev pub fault_number : Fault → ℕ
+fault_number x = rule_number x.rule
+
+-- the flow and the hop at which the rule is broken
 abbrev pub fault_place : Fault → ℕ × ℕ
-fault_place (OffsetTooEarly f h) = (f, h)
-fault_place (EndTooLate f h) = (f, h)
-fault_place (ReachTooLate f h) = (f, h)
-fault_place (DeliveryPastCycle f h) = (f, h)
-fault_place (DeadlineMissed f h) = (f, h)
-fault_place (WindowsTooClose f h) = (f, h)
+fault_place x = (x.flow, x.hop)

@@ -1,11 +1,11 @@
 -- The raising of offsets: what each step keeps on the way to the least that there are.
-use Rattle.std.specs.Prelude.{◌≡◌, ℕ, ◌+◌, ◌-◌, ◌<◌, ◌≤◌, Bool, true, false, List, [], ◌∷◌, map, take, Some, None, Ok, Err, Result, slice_index_or, slice_set}
+use Rattle.std.specs.Prelude.{◌≡◌, ℕ, ◌+◌, ◌-◌, ◌<◌, ◌≤◌, Bool, true, List, [], ◌∷◌, map, take, Some, None, Ok, Err, Option, Result, slice_index_or, slice_set}
 use Rattle.schedule.specs.declared.draft.Draft.{Draft}
 use Rattle.schedule.specs.declared.refusal.FlowRefusal.{FlowRefusal}
 use Rattle.schedule.specs.declared.tables.Flow.{Flow}
 use Rattle.schedule.specs.declared.tables.Window.{Window}
 use Rattle.schedule.specs.Numbers.{flow_number}
-use Rattle.schedule.specs.Plan.{Plan, no_window, flow_count, flow_at, hop_count, port_at, offset_at}
+use Rattle.schedule.specs.Plan.{Plan, no_window, flow_at, hop_count, port_at, offset_at}
 use Rattle.schedule.specs.Rules.{FlowKeeps, Apart}
 use Rattle.schedule.specs.Held.{TablesHeld, FlowsHeld, StretchesHeld, WindowsHeld, RoutesHeld}
 use Rattle.schedule.specs.Drafts.{plan_of}
@@ -71,9 +71,9 @@ abbrev pub TablesKeep : ℕ → ℕ → List Flow → List Window → Type 0
 TablesKeep cycle ports flows windows = TablesHeld flows windows × FlowsHeld cycle flows × StretchesHeld flows windows × WindowsHeld cycle ports windows × RoutesHeld ports flows windows
 
 -- a flow is kept as placing keeps it, or there are no offsets and the plan is as it was; a limit that refuses it leaves the draft the same value
-abbrev pub KeepsLeast : Draft → ℕ → ℕ → ℕ → List ℕ → Result Bool FlowRefusal → Draft → Type 0
-KeepsLeast d release octets deadline route (Ok true) after = Places d release octets deadline route (Ok (flow_count (plan_of d))) after
-KeepsLeast d release octets deadline route (Ok false) after =
+abbrev pub KeepsLeast : Draft → ℕ → ℕ → ℕ → List ℕ → Result (Option ℕ) FlowRefusal → Draft → Type 0
+KeepsLeast d release octets deadline route (Ok (Some f)) after = Places d release octets deadline route (Ok f) after
+KeepsLeast d release octets deadline route (Ok None) after =
     (place_refused (plan_of d) release octets deadline route ≡ None)
     × NoneFit (plan_of d) release octets deadline route
     × (plan_of after ≡ plan_of d)

@@ -2,8 +2,9 @@
 use Rattle.std.specs.Prelude.{◌≡◌, ℕ, suc, ◌+◌, ◌*◌, ◌<◌, ◌≤◌}
 use Rattle.schedule.specs.Plan.{Plan, flow_count, hop_count, release_of, deadline_of, port_at, offset_at, end_at, late_at, early_at}
 use Rattle.schedule.specs.Numbers.{fault_place}
+use Rattle.schedule.specs.declared.refusal.BrokenRule.{BrokenRule}
+use Rattle.schedule.specs.declared.refusal.BrokenRule.TheVariants.{OffsetTooEarly, EndTooLate, ReachTooLate, DeliveryPastCycle, DeadlineMissed, WindowsTooClose}
 use Rattle.schedule.specs.declared.refusal.Fault.{Fault}
-use Rattle.schedule.specs.declared.refusal.Fault.TheVariants.{OffsetTooEarly, EndTooLate, ReachTooLate, DeliveryPastCycle, DeadlineMissed, WindowsTooClose}
 
 -- 1: there is room in the cycle for the guard band before the window
 abbrev pub Guarded : Plan → ℕ → ℕ → Type 0
@@ -60,14 +61,18 @@ FlowKeeps P f = (h : ℕ) → h < hop_count P f → KeepsRules P f h
 abbrev pub Good : Plan → Type 0
 Good P = (f : ℕ) → f < flow_count P → FlowKeeps P f
 
--- the rule of the fault is broken at its hop, and the rules before it are kept there
+-- a rule is broken at hop h of flow f, and the rules before it are kept there
+abbrev pub Breaks : Plan → BrokenRule → ℕ → ℕ → Type 0
+Breaks P OffsetTooEarly f h = Guarded P f h → ⊥
+Breaks P EndTooLate f h = Guarded P f h × (EndsInCycle P f h → ⊥)
+Breaks P ReachTooLate f h = Guarded P f h × EndsInCycle P f h × (ReachedInTime P f h → ⊥)
+Breaks P DeliveryPastCycle f h = Guarded P f h × EndsInCycle P f h × ReachedInTime P f h × (DeliveredInCycle P f h → ⊥)
+Breaks P DeadlineMissed f h = Guarded P f h × EndsInCycle P f h × ReachedInTime P f h × DeliveredInCycle P f h × (MeetsDeadline P f h → ⊥)
+Breaks P WindowsTooClose f h = Guarded P f h × EndsInCycle P f h × ReachedInTime P f h × DeliveredInCycle P f h × MeetsDeadline P f h × (StandsApart P f h → ⊥)
+
+-- likewise of the rule and the hop of a fault
 abbrev pub BrokenThere : Plan → Fault → Type 0
-BrokenThere P (OffsetTooEarly f h) = Guarded P f h → ⊥
-BrokenThere P (EndTooLate f h) = Guarded P f h × (EndsInCycle P f h → ⊥)
-BrokenThere P (ReachTooLate f h) = Guarded P f h × EndsInCycle P f h × (ReachedInTime P f h → ⊥)
-BrokenThere P (DeliveryPastCycle f h) = Guarded P f h × EndsInCycle P f h × ReachedInTime P f h × (DeliveredInCycle P f h → ⊥)
-BrokenThere P (DeadlineMissed f h) = Guarded P f h × EndsInCycle P f h × ReachedInTime P f h × DeliveredInCycle P f h × (MeetsDeadline P f h → ⊥)
-BrokenThere P (WindowsTooClose f h) = Guarded P f h × EndsInCycle P f h × ReachedInTime P f h × DeliveredInCycle P f h × MeetsDeadline P f h × (StandsApart P f h → ⊥)
+BrokenThere P x = Breaks P x.rule (fault_place x).0 (fault_place x).1
 
 -- the first fault of flow f: hops by number, at a hop the rules in order
 pub record FirstInFlow (P : Plan) (f : ℕ) (x : Fault) : Type 0 where

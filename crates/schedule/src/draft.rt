@@ -5,6 +5,7 @@ ghost use Rattle.schedule.specs.Held.{TimingHeld, PortsHeld, DelaysHeld, TablesH
 use crate::tables::{Flow, Port, Window};
 
 pub mod add;
+pub(crate) mod hop;
 pub mod hops;
 pub mod open;
 pub mod place;
@@ -14,12 +15,12 @@ pub mod rules;
 /// A plan in the making: it may break the rules, never the limits.
 #[derive(Drop)]
 pub struct Draft {
-    cycle: u32,
-    error: u32,
-    extension: u32,
-    ports: Vec<Port>,
-    flows: Vec<Flow>,
-    windows: Vec<Window>,
+    pub(crate) cycle: u32,
+    pub(crate) error: u32,
+    pub(crate) extension: u32,
+    pub(crate) ports: Vec<Port>,
+    pub(crate) flows: Vec<Flow>,
+    pub(crate) windows: Vec<Window>,
     ghost timing: { TimingHeld cycle error extension },
     ghost counted: { PortsHeld ports.items },
     ghost delayed: { DelaysHeld ports.items },

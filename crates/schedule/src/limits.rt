@@ -1,6 +1,9 @@
 // The limits of what a plan is made of.
 ghost use Rattle.std.specs.Prelude.{◌≡◌, length};
-ghost use Rattle.schedule.specs.Limits.{timing_allowed, each_below, ports_allowed, flow_allowed, among, ports_differ, route_allowed, offsets_allowed};
+ghost use Rattle.schedule.specs.Limits.{timing_allowed, each_below, ports_allowed, flow_allowed, ports_differ, route_allowed, offsets_allowed};
+
+use crate::draft::add::FlowRequest;
+use crate::draft::open::Timing;
 
 /// The most flows of a plan.
 pub const MAX_FLOWS: usize = 16;
@@ -27,46 +30,10 @@ pub const MAX_OCTETS: u64 = 1_522;
 /// What the wire time of a frame adds to its octets: preamble, start delimiter and the gap between frames.
 pub const FRAME_OVERHEAD: u64 = 20;
 
-pub(crate) fn is_timing_allowed(cycle: u64, error: u64, extension: u64) -> bool
-    ensures { result ≡ timing_allowed cycle error extension }
-{
-    (MIN_CYCLE <= cycle && cycle <= MAX_CYCLE) && (error <= MAX_ERROR && extension < cycle)
-}
-
 fn are_below(bound: u64, numbers: &[u64]) -> bool
     ensures { result ≡ each_below bound numbers.now }
 {
-    for n in numbers {
-        if *n >= bound {
-            return false;
-        }
-    }
-    true
-}
-
-pub(crate) fn are_ports_allowed(delays: &[u64]) -> bool
-    ensures { result ≡ ports_allowed delays.now }
-{
-    (1 <= delays.len() && delays.len() <= MAX_PORTS) && are_below(MAX_DELAY + 1, delays)
-}
-
-pub(crate) fn is_flow_allowed(cycle: u64, release: u64, octets: u64, deadline: u64) -> bool
-    ensures { result ≡ flow_allowed cycle release octets deadline }
-{
-    release < cycle
-        && ((MIN_OCTETS <= octets && octets <= MAX_OCTETS)
-            && (1 <= deadline && deadline <= MAX_DEADLINE))
-}
-
-fn is_among(n: u64, numbers: &[u64]) -> bool
-    ensures { result ≡ among n numbers.now }
-{
-    for m in numbers {
-        if n == *m {
-            return true;
-        }
-    }
-    false
+    numbers.iter().all(|n| *n < bound)
 }
 
 fn do_ports_differ(count: usize, route: &[u64]) -> bool
@@ -76,21 +43,46 @@ fn do_ports_differ(count: usize, route: &[u64]) -> bool
         if *port >= count as u64 {
             return false;
         }
-        if is_among(*port, &route[hop + 1..]) {
+        if route[hop + 1..].contains(port) {
             return false;
         }
     }
     true
 }
 
-pub(crate) fn is_route_allowed(count: usize, route: &[u64]) -> bool
-    ensures { result ≡ route_allowed count route.now }
+pub(crate) fn are_ports_allowed(delays: &[u64]) -> bool
+    ensures { result ≡ ports_allowed delays.now }
 {
-    (1 <= route.len() && route.len() <= MAX_HOPS) && do_ports_differ(count, route)
+    (1..=MAX_PORTS).contains(&delays.len()) && are_below(MAX_DELAY + 1, delays)
 }
 
-pub(crate) fn are_offsets_allowed(cycle: u64, route: &[u64], offsets: &[u64]) -> bool
-    ensures { result ≡ offsets_allowed cycle route.now offsets.now }
-{
-    offsets.len() == route.len() && are_below(cycle, offsets)
+impl Timing {
+    pub(crate) fn is_allowed(&self) -> bool
+        ensures { result ≡ timing_allowed self.now.cycle self.now.error self.now.extension }
+    {
+        (MIN_CYCLE..=MAX_CYCLE).contains(&self.cycle)
+            && (self.error <= MAX_ERROR && self.extension < self.cycle)
+    }
+}
+
+impl FlowRequest<'_> {
+    pub(crate) fn is_flow_allowed(&self, cycle: u64) -> bool
+        ensures { result ≡ flow_allowed cycle self.now.release self.now.octets self.now.deadline }
+    {
+        self.release < cycle
+            && ((MIN_OCTETS..=MAX_OCTETS).contains(&self.octets)
+                && (1..=MAX_DEADLINE).contains(&self.deadline))
+    }
+
+    pub(crate) fn is_route_allowed(&self, ports: usize) -> bool
+        ensures { result ≡ route_allowed ports self.now.route.now }
+    {
+        (1..=MAX_HOPS).contains(&self.route.len()) && do_ports_differ(ports, self.route)
+    }
+
+    pub(crate) fn are_offsets_allowed(&self, cycle: u64, offsets: &[u64]) -> bool
+        ensures { result ≡ offsets_allowed cycle self.now.route.now offsets.now }
+    {
+        offsets.len() == self.route.len() && are_below(cycle, offsets)
+    }
 }

@@ -1,12 +1,12 @@
 // Why a call is refused, and why a draft fails the check.
 ghost use Rattle.std.specs.Prelude.{◌≡◌};
-ghost use Rattle.schedule.specs.Numbers.{open_number, flow_number, certificate_number, fault_number, fault_place};
+ghost use Rattle.schedule.specs.Numbers.{open_number, flow_number, certificate_number, rule_number, fault_number, fault_place};
 ghost use Rattle.schedule.specs.declared.refusal.OpenRefusal.TheVariants.{OutOfMemory};
 
 use std::alloc::AllocError;
 
 /// Why a draft was not opened.
-#[derive(Clone, Copy, Debug)]
+#[derive(Clone, Copy, Debug, PartialEq, Eq)]
 pub enum OpenRefusal {
     TimingBeyondLimits,
     PortsBeyondLimits,
@@ -14,7 +14,7 @@ pub enum OpenRefusal {
 }
 
 /// Why a flow did not enter a draft.
-#[derive(Clone, Copy, Debug)]
+#[derive(Clone, Copy, Debug, PartialEq, Eq)]
 pub enum FlowRefusal {
     DraftFull,
     FlowBeyondLimits,
@@ -24,20 +24,28 @@ pub enum FlowRefusal {
 }
 
 /// Why a plan has no such certificate.
-#[derive(Clone, Copy, Debug)]
+#[derive(Clone, Copy, Debug, PartialEq, Eq)]
 pub enum CertificateRefusal {
     AbsentFlow,
 }
 
+/// A rule of a plan, by the way in which it is broken.
+#[derive(Clone, Copy, Debug, PartialEq, Eq)]
+pub enum BrokenRule {
+    OffsetTooEarly,
+    EndTooLate,
+    ReachTooLate,
+    DeliveryPastCycle,
+    DeadlineMissed,
+    WindowsTooClose,
+}
+
 /// The first rule that a draft breaks, with the flow and the hop.
-#[derive(Clone, Copy, Debug)]
-pub enum Fault {
-    OffsetTooEarly { flow: usize, hop: usize },
-    EndTooLate { flow: usize, hop: usize },
-    ReachTooLate { flow: usize, hop: usize },
-    DeliveryPastCycle { flow: usize, hop: usize },
-    DeadlineMissed { flow: usize, hop: usize },
-    WindowsTooClose { flow: usize, hop: usize },
+#[derive(Clone, Copy, Debug, PartialEq, Eq)]
+pub struct Fault {
+    pub rule: BrokenRule,
+    pub flow: usize,
+    pub hop: usize,
 }
 
 impl From<AllocError> for OpenRefusal {
@@ -85,31 +93,32 @@ impl CertificateRefusal {
     }
 }
 
+impl BrokenRule {
+    pub fn number(self) -> u8
+        ensures { result ≡ rule_number self }
+    {
+        match self {
+            BrokenRule::OffsetTooEarly => 11,
+            BrokenRule::EndTooLate => 12,
+            BrokenRule::ReachTooLate => 13,
+            BrokenRule::DeliveryPastCycle => 14,
+            BrokenRule::DeadlineMissed => 15,
+            BrokenRule::WindowsTooClose => 16,
+        }
+    }
+}
+
 impl Fault {
     pub fn number(self) -> u8
         ensures { result ≡ fault_number self }
     {
-        match self {
-            Fault::OffsetTooEarly { .. } => 11,
-            Fault::EndTooLate { .. } => 12,
-            Fault::ReachTooLate { .. } => 13,
-            Fault::DeliveryPastCycle { .. } => 14,
-            Fault::DeadlineMissed { .. } => 15,
-            Fault::WindowsTooClose { .. } => 16,
-        }
+        self.rule.number()
     }
 
     /// The flow and the hop at which the rule is broken.
     pub fn place(self) -> (usize, usize)
         ensures { result ≡ fault_place self }
     {
-        match self {
-            Fault::OffsetTooEarly { flow, hop } => (flow, hop),
-            Fault::EndTooLate { flow, hop } => (flow, hop),
-            Fault::ReachTooLate { flow, hop } => (flow, hop),
-            Fault::DeliveryPastCycle { flow, hop } => (flow, hop),
-            Fault::DeadlineMissed { flow, hop } => (flow, hop),
-            Fault::WindowsTooClose { flow, hop } => (flow, hop),
-        }
+        (self.flow, self.hop)
     }
 }

@@ -3,7 +3,7 @@ ghost use Rattle.std.specs.Prelude.{◌≡◌, ℕ, ◌+◌, ◌^◌, ◌<◌, �
 ghost use Rattle.schedule.specs.Drafts.{windows_along, Adds};
 
 use super::Draft;
-use crate::limits::{MAX_FLOWS, are_offsets_allowed, is_flow_allowed, is_route_allowed};
+use crate::limits::MAX_FLOWS;
 use crate::refusal::FlowRefusal;
 use crate::tables::{Flow, Window};
 
@@ -25,12 +25,11 @@ fn push_windows(windows: &mut Vec<Window>, route: &[u64], offsets: &[u64])
     ensures items { windows.new.items ≡ windows.old.items ++ windows_along route.now offsets.now }
     ensures capacity { vec_capacity windows.new ≡ vec_capacity windows.old }
 {
-    for hop in 0..route.len() {
-        let window = Window {
-            port: route[hop] as usize,
-            offset: offsets[hop] as u32,
-        };
-        windows.push_reserved(window);
+    for (port, offset) in route.iter().zip(offsets) {
+        windows.push_reserved(Window {
+            port: *port as usize,
+            offset: *offset as u32,
+        });
     }
 }
 
@@ -42,18 +41,14 @@ impl Draft {
         if self.flows.len() >= MAX_FLOWS {
             return Err(FlowRefusal::DraftFull);
         }
-        if !is_flow_allowed(
-            self.cycle as u64,
-            request.release,
-            request.octets,
-            request.deadline,
-        ) {
+        let cycle = u64::from(self.cycle);
+        if !request.is_flow_allowed(cycle) {
             return Err(FlowRefusal::FlowBeyondLimits);
         }
-        if !is_route_allowed(self.ports.len(), request.route) {
+        if !request.is_route_allowed(self.ports.len()) {
             return Err(FlowRefusal::BadRoute);
         }
-        if !are_offsets_allowed(self.cycle as u64, request.route, offsets) {
+        if !request.are_offsets_allowed(cycle, offsets) {
             return Err(FlowRefusal::BadOffsets);
         }
         let flow = Flow {

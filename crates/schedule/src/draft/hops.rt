@@ -4,7 +4,7 @@ ghost use Rattle.schedule.specs.Plan.{flow_at, windows_of};
 ghost use Rattle.schedule.specs.Drafts.{plan_of};
 
 use super::Draft;
-use crate::tables::{Flow, Window};
+use crate::tables::Window;
 
 // So many windows from a place on.
 fn stretch(windows: &[Window], first: usize, hops: usize) -> &[Window]
@@ -23,11 +23,10 @@ impl Draft {
         ensures fits { result.0 + result.1 ≤ length self.now.windows.items }
         ensures few { result.1 ≤ 6 }
     {
-        if flow >= self.flows.len() {
-            return (0, 0);
+        match self.flows.get(flow) {
+            Some(flow) => (flow.first, flow.hops),
+            None => (0, 0),
         }
-        let Flow { first, hops, .. } = self.flow(flow);
-        (first, hops)
     }
 
     /// The windows of a flow, hop by hop; none for a flow that the draft does not have.
@@ -36,6 +35,6 @@ impl Draft {
         ensures few { length result.now ≤ 6 }
     {
         let (first, hops) = self.span(flow);
-        stretch(self.windows(), first, hops)
+        stretch(self.windows.as_slice(), first, hops)
     }
 }

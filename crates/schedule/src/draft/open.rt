@@ -1,40 +1,41 @@
 // Opening a draft.
-ghost use Rattle.std.specs.Prelude.{◌≡◌, true, map, IfOk};
-ghost use Rattle.schedule.specs.Limits.{each_below};
+ghost use Rattle.std.specs.Prelude.{◌≡◌, ◌^◌, ◌<◌, map, IfOk, All};
 ghost use Rattle.schedule.specs.Drafts.{port_with, Opens};
 
 use super::Draft;
-use crate::limits::{MAX_FLOWS, MAX_WINDOWS, are_ports_allowed, is_timing_allowed};
+use crate::limits::{MAX_FLOWS, MAX_WINDOWS, are_ports_allowed};
 use crate::refusal::OpenRefusal;
 use crate::tables::Port;
 use std::alloc::{AllocError, Global};
 
+/// The cycle of a plan, the most by which a clock may be off, and the most by which a change of plans may draw out the last cycle, in ticks.
+/// Numbers beyond the limits are refused, not cut.
+#[derive(Clone, Copy, Debug, PartialEq, Eq)]
+pub struct Timing {
+    pub cycle: u64,
+    pub error: u64,
+    pub extension: u64,
+}
+
 // A port for each delay.
 fn ports_with(heap: Global, delays: &[u64]) -> Result<Vec<Port>, AllocError>
-    requires { each_below 25001 delays.now ≡ true }
+    requires { All (λ d. d < 2 ^ 32) delays.now }
     ensures { IfOk result (λ v. v.items ≡ map port_with delays.now) }
 {
-    let mut ports = Vec::with_capacity(heap, delays.len())?;
-    for delay in delays {
-        ports.push(Port {
+    delays
+        .iter()
+        .map(|delay| Port {
             delay: *delay as u32,
-        })?;
-    }
-    Ok(ports)
+        })
+        .collect(heap)
 }
 
 impl Draft {
     /// An empty draft. Memory for the most that a plan can hold is reserved here, so that no later call lacks any.
-    pub fn open(
-        heap: Global,
-        cycle: u64,
-        error: u64,
-        extension: u64,
-        delays: &[u64],
-    ) -> Result<Draft, OpenRefusal>
-        ensures { Opens cycle error extension delays.now result }
+    pub fn open(heap: Global, timing: Timing, delays: &[u64]) -> Result<Draft, OpenRefusal>
+        ensures { Opens timing.cycle timing.error timing.extension delays.now result }
     {
-        if !is_timing_allowed(cycle, error, extension) {
+        if !timing.is_allowed() {
             return Err(OpenRefusal::TimingBeyondLimits);
         }
         if !are_ports_allowed(delays) {
@@ -44,9 +45,9 @@ impl Draft {
         let flows = Vec::with_capacity(heap, MAX_FLOWS)?;
         let windows = Vec::with_capacity(heap, MAX_WINDOWS)?;
         Ok(Draft {
-            cycle: cycle as u32,
-            error: error as u32,
-            extension: extension as u32,
+            cycle: timing.cycle as u32,
+            error: timing.error as u32,
+            extension: timing.extension as u32,
             ports,
             flows,
             windows,

@@ -1,5 +1,5 @@
 // Placing a flow at the least offsets there are.
-ghost use Rattle.std.specs.Prelude.{◌≡◌, min, length, take, if◌then◌else◌, vec_len};
+ghost use Rattle.std.specs.Prelude.{◌≡◌, min, length, take, vec_len};
 ghost use Rattle.schedule.specs.Drafts.{plan_of};
 ghost use Rattle.schedule.specs.Placing.{Places, MinimumFits};
 ghost use Rattle.schedule.specs.Raising.{cut_back, TablesKeep, KeepsLeast};
@@ -19,30 +19,37 @@ fn trial_hops(route: &[u64]) -> usize
     route.len().min(MAX_HOPS)
 }
 
-// A draft with a trial flow as its last, and the counts of flows and windows before it: its end restores them unless the flow was kept.
+// A draft with a trial flow as its last, and the counts of flows and windows before it: its end restores them unless the flow is kept.
 struct Trial<'a> {
     draft: &'a mut Draft,
     flows: usize,
     windows: usize,
-    kept: bool,
+}
+
+impl Trial<'_> {
+    // Ends the trial with its flow in the draft.
+    fn keep(self)
+        ensures { self.exit.0.now ≡ self.entry.draft.now }
+    {
+        let Trial {
+            draft: _,
+            flows: _,
+            windows: _,
+        } = self;
+    }
 }
 
 impl Drop for Trial<'_> {
     fn drop(self)
         requires { TablesKeep self.draft.now.cycle (vec_len self.draft.now.ports) (take self.flows self.draft.now.flows.items) (take self.windows self.draft.now.windows.items) }
-        ensures { plan_of self.exit.0.now ≡ (if self.entry.kept then plan_of self.entry.draft.now else cut_back (plan_of self.entry.draft.now) self.entry.flows self.entry.windows) }
+        ensures { plan_of self.exit.0.now ≡ cut_back (plan_of self.entry.draft.now) self.entry.flows self.entry.windows }
     {
-        if !self.kept {
-            let flows = self.flows;
-            let windows = self.windows;
-            self.draft.cut_back(flows, windows);
-        }
         let Trial {
-            draft: _,
-            flows: _,
-            windows: _,
-            kept: _,
+            draft,
+            flows,
+            windows,
         } = self;
+        draft.cut_back(flows, windows);
     }
 }
 
@@ -56,32 +63,33 @@ impl Draft {
         self.windows.truncate(windows);
     }
 
-    // Keeps the flow at the least offsets there are, and says whether there are any.
-    fn keep_least(&mut self, request: FlowRequest<'_>) -> Result<bool, FlowRefusal>
+    // Keeps the flow at the least offsets there are, and replies its number if there are any.
+    fn keep_least(&mut self, request: FlowRequest<'_>) -> Result<Option<usize>, FlowRefusal>
         ensures { KeepsLeast self.old request.entry.release request.entry.octets request.entry.deadline request.entry.route.now result self.new }
     {
         let windows = self.windows.len();
         let hops = trial_hops(request.route);
         let flow = self.add(request, &LOWEST[..hops])?;
-        let mut trial = Trial {
+        let trial = Trial {
             draft: self,
             flows: flow,
             windows,
-            kept: false,
         };
-        trial.kept = trial.draft.raise_offsets(flow);
-        Ok(trial.kept)
+        if !trial.draft.raise_offsets(flow) {
+            return Ok(None);
+        }
+        trial.keep();
+        Ok(Some(flow))
     }
 
     /// Keeps the flow at the least offsets with which it keeps the rules beside the flows already there, and replies its number.
     pub fn place(&mut self, request: FlowRequest<'_>) -> Result<usize, FlowRefusal>
         ensures { Places self.old request.entry.release request.entry.octets request.entry.deadline request.entry.route.now result self.new }
     {
-        let flow = self.flow_count();
-        if !self.keep_least(request)? {
-            return Err(FlowRefusal::NoOffsets);
+        match self.keep_least(request)? {
+            Some(flow) => Ok(flow),
+            None => Err(FlowRefusal::NoOffsets),
         }
-        Ok(flow)
     }
 }
 

@@ -8,10 +8,10 @@ pub returns-then-port-count : goal.returns-then-port-count
 returns-then-port-count c =
     sym (sym c.loop-hop.invariant ∙ at_drop_more (ports_differ c.args.count) c.args.route.now c.loop-hop.hop 0 (omega arith) ∙ and_left _ _ (le-ltb _ _ c.if-port-count.true))
 
-pub returns-then-is_among : goal.returns-then-is_among
-returns-then-is_among c =
+pub returns-then-contains : goal.returns-then-contains
+returns-then-contains c =
     let p = get_or c.args.route.now c.loop-hop.hop 0 in
-    let seen = sym (c.if-is_among.ensures ∙ ap (among p) (take_rest c.args.route.now (c.loop-hop.hop + 1))) in
+    let seen = sym (c.if-contains.ensures.value ∙ ap (among p) (take_rest c.args.route.now (c.loop-hop.hop + 1))) in
     sym (sym c.loop-hop.invariant ∙ at_drop_more (ports_differ c.args.count) c.args.route.now c.loop-hop.hop 0 (omega arith)
     ∙ and_right _ _ (and_left _ _ (not_from_true _ seen)))
 
@@ -19,7 +19,7 @@ pub loop-hop-preserved : goal.loop-hop-preserved
 loop-hop-preserved c =
     let p = get_or c.args.route.now c.loop-hop.hop 0 in
     let rest = ports_differ c.args.count (drop (c.loop-hop.hop + 1) c.args.route.now) in
-    let seen = sym (c.if-is_among.ensures ∙ ap (among p) (take_rest c.args.route.now (c.loop-hop.hop + 1))) in
+    let seen = sym (c.if-contains.ensures.value ∙ ap (among p) (take_rest c.args.route.now (c.loop-hop.hop + 1))) in
     let below = lt-ltb p c.args.count c.if-port-count.false in
     sym (at_drop_more (ports_differ c.args.count) c.args.route.now c.loop-hop.hop 0 (omega arith) ∙ (λ i. below i && (not (seen i) && rest))) ∙ c.loop-hop.invariant
 

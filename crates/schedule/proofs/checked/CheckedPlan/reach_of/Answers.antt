@@ -1,33 +1,27 @@
-use Rattle.std.proofs.Common.{◌+◌, ◌-◌, ◌<◌, ◌≤◌, arith}
-use Rattle.schedule.specs.Plan.{flow_count, hop_count, release_of}
-use Rattle.schedule.specs.Rules.{FlowKeeps}
+use Rattle.std.proofs.Common.{◌≡◌, ◌-◌, ap, ◌∙◌, arith}
+use Rattle.schedule.specs.declared.draft.Draft.{Draft}
+use Rattle.schedule.specs.Plan.{HasHop, flow_count, hop_count, early_at, late_at}
+use Rattle.schedule.specs.Drafts.{plan_of}
 use Rattle.schedule.specs.Checks.{checked_plan}
 use Rattle.schedule.proofs.Props.{good_from}
 use Rattle.schedule.proofs.Chains.{early_past}
-use Rattle.schedule.proofs.checked.CheckedPlan.reach_of.Goals.{After-early}
 use Rattle.schedule.proofs.checked.CheckedPlan.reach_of.Goals as goal
-
-module _ (c : goal.After-early) where
-  present : c.args.flow < flow_count (checked_plan c.args.self.now)
-  present = c.requires.0
-
-  hop_in : c.args.hop < hop_count (checked_plan c.args.self.now) c.args.flow
-  hop_in = c.requires.1
-
-  keeps : FlowKeeps (checked_plan c.args.self.now) c.args.flow
-  keeps = good_from (checked_plan c.args.self.now) c.args.self.now.good c.args.flow present
-
-  early : release_of (checked_plan c.args.self.now) c.args.flow + c.args.self.now.draft.error ≤ c.early.result
-  early = omega (arith, early_past (checked_plan c.args.self.now) c.args.flow keeps c.args.hop (omega (arith, hop_in)), c.early.ensures.is)
-
-pub overflow_sub-earliest : goal.overflow_sub-earliest
-overflow_sub-earliest c = omega (arith, early (goal.at.overflow_sub-earliest c).After-early, c.error.ensures)
 
 pub returns : goal.returns
 returns c =
-    let d = (goal.at.returns c).After-early in
-    record {
-      is = (λ i. (c.early.ensures.is i - c.error.ensures i, c.late.ensures.is i));
-      released = omega (arith, early d, c.error.ensures);
-      waits = omega (arith, (keeps d c.args.hop (hop_in d)).reached, c.late.ensures.is);
-    }
+    let P = checked_plan c.args.self.now in
+    let x = c.in_ok-hop.hop in
+    let same = c.in_ok-hop.ensures in
+    let flows = ap (λ (d : Draft). flow_count (plan_of d)) same.0 in
+    let hops : hop_count (plan_of x.draft.now) x.flow ≡ hop_count P c.args.flow = (λ i. hop_count (plan_of (same.0 i)) (same.1 i)) in
+    let has : HasHop P c.args.flow c.args.hop = (omega (arith, same.1, x.there.0), omega (arith, same.2, x.there.1)) in
+    let keeps = good_from P c.args.self.now.good c.args.flow has.0 in
+    let early : c.early.result ≡ early_at P c.args.flow c.args.hop = c.early.ensures.is ∙ (λ i. early_at (plan_of (same.0 i)) (same.1 i) (same.2 i)) in
+    let late : c.late.result ≡ late_at P c.args.flow c.args.hop = c.late.ensures.is ∙ (λ i. late_at (plan_of (same.0 i)) (same.1 i) (same.2 i)) in (
+      has,
+      record {
+        is = (λ i. (early i - P.error, late i));
+        released = omega (arith, early_past P c.args.flow keeps c.args.hop (omega (arith, has.1)));
+        waits = omega (arith, (keeps c.args.hop has.1).reached);
+      },
+    )

@@ -1,58 +1,44 @@
-use Rattle.std.proofs.Common.{◌≡◌, ◌+◌, ◌-◌, ◌<◌, ◌≤◌, ap, ◌∙◌, arith}
+use Rattle.std.proofs.Common.{◌≡◌, ◌+◌, ◌-◌, ◌<◌, ◌≤◌, sym, ap, ◌∙◌, subst, arith}
+use Rattle.schedule.specs.declared.draft.Draft.{Draft}
 use Rattle.schedule.specs.declared.tables.Flow.{Flow}
-use Rattle.schedule.specs.Plan.{flow_count, hop_count, release_of, early_at, late_at}
+use Rattle.schedule.specs.Plan.{Plan, flow_count, release_of, crossed_at}
 use Rattle.schedule.specs.Rules.{FlowKeeps}
-use Rattle.schedule.specs.Checks.{checked_plan}
+use Rattle.schedule.specs.Drafts.{plan_of}
+use Rattle.schedule.specs.Checks.{Transits, checked_plan}
 use Rattle.schedule.proofs.Props.{good_from}
-use Rattle.schedule.proofs.Chains.{late_past, early_past, delivered_in_time, late_early}
-use Rattle.schedule.proofs.checked.CheckedPlan.transits.Goals.{After-flow-release}
+use Rattle.schedule.proofs.Chains.{released_before, transits_are}
+use Rattle.schedule.proofs.checked.CheckedPlan.transits.Goals.{After-of_flow-release}
 use Rattle.schedule.proofs.checked.CheckedPlan.transits.Goals as goal
 
-module _ (c : goal.After-flow-release) where
-  present : c.args.flow < flow_count (checked_plan c.args.self.now)
-  present = c.requires
+module _ (c : goal.After-of_flow-release) where
+  abbrev P : Plan
+  P = checked_plan c.args.self.now
 
-  keeps : FlowKeeps (checked_plan c.args.self.now) c.args.flow
-  keeps = good_from (checked_plan c.args.self.now) c.args.self.now.good c.args.flow present
+  crossed_is : crossed_at (plan_of c.in_ok-last.last.draft.now) c.in_ok-last.last.flow c.in_ok-last.last.hop ≡ crossed_at P c.args.flow c.in_ok-last.last.hop
+  crossed_is = let e = c.in_ok-last.ensures in (λ i. crossed_at (plan_of (e.0 i)) (e.1 i) c.in_ok-last.last.hop)
 
-  hops_is : c.flow-release.result.hops ≡ hop_count (checked_plan c.args.self.now) c.args.flow
-  hops_is = ap (λ (x : Flow). x.hops) c.flow-release.ensures.is
+  present : c.args.flow < flow_count P
+  present = let many = ap (λ (d : Draft). flow_count (plan_of d)) c.in_ok-last.ensures.0 in omega (arith, c.in_ok-last.ensures.1, c.in_ok-last.last.there.0)
 
-  release_is : c.flow-release.result.release ≡ release_of (checked_plan c.args.self.now) c.args.flow
-  release_is = ap (λ (x : Flow). x.release) c.flow-release.ensures.is
+  keeps : FlowKeeps P c.args.flow
+  keeps = good_from P c.args.self.now.good c.args.flow present
 
-  some_hops : 1 ≤ hop_count (checked_plan c.args.self.now) c.args.flow
-  some_hops = (c.args.self.now.draft.stretches c.args.flow present).0
+  released : release_of P c.args.flow + P.error ≤ crossed_at P c.args.flow c.in_ok-last.last.hop
+  released = released_before P c.args.flow keeps c.in_ok-last.last.hop c.in_ok-last.ensures.2
 
-  early : release_of (checked_plan c.args.self.now) c.args.flow + c.args.self.now.draft.error ≤ early_at (checked_plan c.args.self.now) c.args.flow c.flow-release.result.hops
-  early = early_past (checked_plan c.args.self.now) c.args.flow keeps c.flow-release.result.hops (omega (arith, hops_is))
-
-pub overflow_sub-earliest : goal.overflow_sub-earliest
-overflow_sub-earliest c = omega (arith, early (goal.at.overflow_sub-earliest c).After-flow-release, c.early.ensures.is, c.error.ensures)
+  release_is : c.of_flow-release.result.release ≡ release_of P c.args.flow
+  release_is = let e = c.in_ok-last.ensures in ap (λ (x : Flow). x.release) c.of_flow-release.ensures.is ∙ (λ i. release_of (plan_of (e.0 i)) (e.1 i))
 
 pub overflow_sub-result : goal.overflow_sub-result
-overflow_sub-result c = let d = (goal.at.overflow_sub-result c).After-flow-release in omega (arith, early d, release_is d, c.early.ensures.is, c.error.ensures)
+overflow_sub-result c = let d = (goal.at.overflow_sub-result c).After-of_flow-release in omega (arith, released d, release_is d, crossed_is d, c.crossed.ensures.is)
 
 pub overflow_sub-result-2 : goal.overflow_sub-result-2
-overflow_sub-result-2 c =
-    let d = (goal.at.overflow_sub-result-2 c).After-flow-release in
-    let past = late_past (checked_plan c.args.self.now) c.args.flow (keeps d) c.flow-release.result.hops (omega (arith, hops_is d)) in
-    omega (arith, release_is d, c.late-latest.ensures.is)
+overflow_sub-result-2 c = let d = (goal.at.overflow_sub-result-2 c).After-of_flow-release in omega (arith, released d, release_is d, crossed_is d, c.late_after.ensures.is)
 
 pub returns : goal.returns
 returns c =
-    let d = (goal.at.returns c).After-flow-release in
-    let P = checked_plan c.args.self.now in
-    let f = c.args.flow in
-    let hops = hops_is d in
-    let release = release_is d in
-    let e = c.early.ensures.is ∙ ap (early_at P f) hops in
-    let l = c.late-latest.ensures.is ∙ ap (late_at P f) hops in
-    let past = early_past P f (keeps d) (hop_count P f) (omega arith) in
-    let both = late_early P f (hop_count P f) (some_hops d) in
-    let met = delivered_in_time P f (keeps d) (some_hops d) in
-    record {
-      is = (λ i. (e i - c.error.ensures i - release i, l i - release i));
-      spread = omega (arith, c.error.ensures);
-      in_time = omega arith;
-    }
+    let d = (goal.at.returns c).After-of_flow-release in
+    let r = sym (release_is d) in
+    let e = sym (c.crossed.ensures.is ∙ crossed_is d) in
+    let l : crossed_at (P d) c.args.flow c.in_ok-last.last.hop + (P d).error ≡ c.late_after.result = sym (c.late_after.ensures.is ∙ (λ i. crossed_is d i + (c.in_ok-last.ensures.0 i).error)) in
+    (present d, subst (Transits (P d) c.args.flow) (λ i. (e i - (P d).error - r i, l i - r i)) (transits_are (P d) c.args.flow (keeps d) c.in_ok-last.last.hop c.in_ok-last.ensures.2))

@@ -1,6 +1,6 @@
 use Rattle.std.proofs.Common.{ℕ, ◌<◌, ◌≤◌, [], ◌∷◌, ◌++◌, length, vec_items, vec_len, vec_capacity, sym, ap, ◌∙◌, arith}
 use Rattle.schedule.specs.declared.tables.Flow.{Flow}
-use Rattle.schedule.specs.Limits.{route_allowed}
+use Rattle.schedule.specs.Limits.{flow_allowed, route_allowed, offsets_allowed}
 use Rattle.schedule.proofs.Adding.{spaced_length, spaced_below, routed_most, held_after_add}
 use Rattle.schedule.proofs.draft.Draft.add.Goals as goal
 
@@ -9,7 +9,7 @@ push_windows-requires c =
     let d = c.args.self.now in
     let route = c.args.request.route.now in
     let offsets = c.args.offsets.now in
-    let spaced = sym c.if-not-are_offsets_allowed.ensures in
+    let spaced = ap (λ n. offsets_allowed n route offsets) (sym c.from-cycle.ensures) ∙ sym c.if-not-are_offsets_allowed.ensures in
     let most = routed_most c.len-2.result route (sym c.if-not-is_route_allowed.ensures) in
     record {
       same_length = spaced_length d.cycle route offsets spaced;
@@ -26,9 +26,9 @@ invariant_of-self c =
     let fs = vec_items d.flows in
     let ws = vec_items d.windows in
     let n = vec_len d.ports in
-    let allowed = sym c.if-not-is_flow_allowed.ensures in
+    let allowed = ap (λ n. flow_allowed n r.release r.octets r.deadline) (sym c.from-cycle.ensures) ∙ sym c.if-not-is_flow_allowed.ensures in
     let routed = ap (λ n. route_allowed n route) (sym c.len-2.ensures) ∙ sym c.if-not-is_route_allowed.ensures in
-    let spaced = sym c.if-not-are_offsets_allowed.ensures in
+    let spaced = ap (λ n. offsets_allowed n route offsets) (sym c.from-cycle.ensures) ∙ sym c.if-not-are_offsets_allowed.ensures in
     let few : length (vec_items d.flows) < 16 = omega (arith, d.flows.ok.0, c.len.ensures) in
     let first = c.len-3.ensures ∙ d.windows.ok.0 in
     let flow : ℕ → Flow = λ i. record { release = r.release; octets = r.octets; deadline = r.deadline; first = i; hops = length route } in

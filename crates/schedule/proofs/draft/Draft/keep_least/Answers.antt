@@ -1,27 +1,17 @@
-use Rattle.std.proofs.Common.{◌≡◌, ℕ, ◌≤◌, Bool, true, false, List, length, take, Some, None, Ok, vec_items, vec_len, sym, refl, ap, ◌∙◌, subst, arith}
-use Rattle.std.proofs.lemmas.List.{length_push}
+use Rattle.std.proofs.Common.{◌≡◌, ℕ, ◌≤◌, List, length, take, Some, vec_items, vec_len, sym, ap, ◌∙◌, subst, arith}
 use Rattle.std.proofs.lemmas.Result.{err_from_is_err_and}
-use Rattle.std.proofs.lemmas.Bool.{cond-true, cond-false}
 use Rattle.schedule.specs.declared.tables.Flow.{Flow}
 use Rattle.schedule.specs.declared.draft.Draft.{Draft}
 use Rattle.schedule.specs.declared.refusal.FlowRefusal.{FlowRefusal}
 use Rattle.schedule.specs.Numbers.{flow_number}
 use Rattle.schedule.specs.Plan.{Plan, flow_count}
 use Rattle.schedule.specs.Drafts.{plan_of, with_flow}
-use Rattle.schedule.specs.Placing.{place_refused, NoneFit, Places}
 use Rattle.schedule.specs.Raising.{cut_back, Raises, Behind, TablesKeep, KeepsLeast}
 use Rattle.schedule.proofs.Adding.{routed_least, routed_most}
 use Rattle.schedule.proofs.Lowest.{lowest, lowest_zero, lowest_length, routed, place_passes, refused_by_limits}
 use Rattle.schedule.proofs.Placed.{all_behind, old_again, none_fit, placed}
 use Rattle.schedule.proofs.draft.Draft.keep_least.Goals.{In_ok-flow, After-raise_offsets}
 use Rattle.schedule.proofs.draft.Draft.keep_least.Goals as goal
-
--- a reply is one of the two
-either : (d : Draft) (release octets deadline : ℕ) (route : List ℕ) (kept : Bool) (after : Draft) → place_refused (plan_of d) release octets deadline route ≡ None
-    → (kept ≡ true → Places d release octets deadline route (Ok (flow_count (plan_of d))) after)
-    → (kept ≡ false → NoneFit (plan_of d) release octets deadline route × (plan_of after ≡ plan_of d)) → KeepsLeast d release octets deadline route (Ok kept) after
-either d release octets deadline route true after passes fits none = fits refl
-either d release octets deadline route false after passes fits none = (passes, (none refl).0, (none refl).1)
 
 pub returns-in_err-flow : goal.returns-in_err-flow
 returns-in_err-flow c =
@@ -63,17 +53,12 @@ module _ (c : goal.In_ok-flow) where
       (routed_most (length P.ports) route (routed P c.args.request.release c.args.request.octets c.args.request.deadline route c.trial_hops-hops.result c.in_ok-flow.ensures.0))
       c.trial_hops-hops.ensures
 
-pub raise_offsets-requires : goal.raise_offsets-requires
-raise_offsets-requires c =
-    let before = (goal.at.raise_offsets-requires c).In_ok-flow in
+pub raise_offsets-requires-clause-behind : goal.raise_offsets-requires-clause-behind
+raise_offsets-requires-clause-behind c =
+    let before = (goal.at.raise_offsets-requires-clause-behind c).In_ok-flow in
     let r = c.args.request in
-    let f = is_last before in
-    let e = is_tried before in
-    let many = ap flow_count e in
-    record {
-      present = omega (arith, length_push (vec_items c.args.self.now.flows) (new before));
-      behind = subst (λ (p : Plan). Behind p c.in_ok-flow.flow) (sym e) (subst (Behind (tried before)) (sym f) (all_behind (P before) c.args.self.now.stretches r.release r.octets r.deadline (route before) (zeros before)));
-    }
+    subst (λ (p : Plan). Behind p c.in_ok-flow.flow) (sym (is_tried before))
+    (subst (Behind (tried before)) (sym (is_last before)) (all_behind (P before) c.args.self.now.stretches r.release r.octets r.deadline (route before) (zeros before)))
 
 module _ (c : goal.After-raise_offsets) where
   abbrev before : goal.In_ok-flow
@@ -109,18 +94,24 @@ module _ (c : goal.After-raise_offsets) where
 pub drop-trial-requires : goal.drop-trial-requires
 drop-trial-requires c = restorable (goal.at.drop-trial-requires c).After-raise_offsets
 
+pub returns-then-not-raise_offsets : goal.returns-then-not-raise_offsets
+returns-then-not-raise_offsets c =
+    let known = (goal.at.returns-then-not-raise_offsets c).After-raise_offsets in
+    let b = before known in
+    let r = c.args.request in (
+      place_passes (P b) r.release r.octets r.deadline (route b) c.trial_hops-hops.result c.in_ok-flow.ensures.0,
+      none_fit (P b) (d known).stretches r.release r.octets r.deadline (route b) (hops_some b) (zeros b) (zeros_length b) (lowest_zero c.trial_hops-hops.result) c.raise_offsets.result (plan_of (after known)) (raised known) c.if-not-raise_offsets.true,
+      c.drop-trial.ensures ∙ restored known,
+    )
+
 pub returns : goal.returns
 returns c =
     let known = (goal.at.returns c).After-raise_offsets in
+    let b = before known in
     let r = c.args.request in
-    let p = P (before known) in
-    either (d known) r.release r.octets r.deadline (route (before known)) c.raise_offsets.result _
-    (place_passes p r.release r.octets r.deadline (route (before known)) c.trial_hops-hops.result c.in_ok-flow.ensures.0)
-    (λ kept.
     let (os, least, is) =
-    placed p (d known).stretches r.release r.octets r.deadline (route (before known)) (hops_some (before known)) (zeros (before known)) (zeros_length (before known)) (lowest_zero c.trial_hops-hops.result) c.raise_offsets.result (plan_of (after known)) (raised known) kept in
-    (place_passes p r.release r.octets r.deadline (route (before known)) c.trial_hops-hops.result c.in_ok-flow.ensures.0, refl, (os, least, c.drop-trial.ensures ∙ cond-true _ _ _ kept ∙ is)))
-    (λ lost. (
-      none_fit p (d known).stretches r.release r.octets r.deadline (route (before known)) (hops_some (before known)) (zeros (before known)) (zeros_length (before known)) (lowest_zero c.trial_hops-hops.result) c.raise_offsets.result (plan_of (after known)) (raised known) lost,
-      c.drop-trial.ensures ∙ cond-false _ _ _ lost ∙ restored known,
-    ))
+    placed (P b) (d known).stretches r.release r.octets r.deadline (route b) (hops_some b) (zeros b) (zeros_length b) (lowest_zero c.trial_hops-hops.result) c.raise_offsets.result (plan_of (after known)) (raised known) c.if-not-raise_offsets.false in (
+      place_passes (P b) r.release r.octets r.deadline (route b) c.trial_hops-hops.result c.in_ok-flow.ensures.0,
+      is_last b,
+      (os, least, ap plan_of c.keep.ensures ∙ is),
+    )

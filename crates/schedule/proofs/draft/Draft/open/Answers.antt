@@ -1,10 +1,13 @@
 use Rattle.std.proofs.Common.{vec_items, vec_len, sym}
-use Rattle.schedule.proofs.Opening.{timing_held, ports_held, delays_held, tables_empty, flows_empty, stretches_empty, windows_empty, routes_empty}
+use Rattle.schedule.proofs.Opening.{delays_fit, timing_held, ports_held, delays_held, tables_empty, flows_empty, stretches_empty, windows_empty, routes_empty}
 use Rattle.schedule.proofs.draft.Draft.open.Goals as goal
+
+pub ports_with-requires : goal.ports_with-requires
+ports_with-requires c = delays_fit c.args.delays.now (sym c.if-not-are_ports_allowed.ensures)
 
 pub invariant_of-result : goal.invariant_of-result
 invariant_of-result c =
-    let timing = timing_held c.args.cycle c.args.error c.args.extension (sym c.if-not-is_timing_allowed.ensures) in
+    let timing = timing_held c.args.timing.cycle c.args.timing.error c.args.timing.extension (sym c.if-not-is_allowed.ensures) in
     let ports = vec_items c.in_ok-ports.ports in
     let made = c.in_ok-ports.ensures in
     let allowed = sym c.if-not-are_ports_allowed.ensures in
@@ -17,10 +20,10 @@ invariant_of-result c =
       timing = timing;
       counted = ports_held ports c.args.delays.now allowed made;
       delayed = delays_held ports c.args.delays.now allowed made;
-      tables = tables_empty c.args.cycle n fs ws flows.items windows.items;
-      allowed = flows_empty c.args.cycle n fs ws flows.items windows.items;
-      stretches = stretches_empty c.args.cycle n fs ws flows.items windows.items;
-      placed = windows_empty c.args.cycle n fs ws flows.items windows.items;
-      routes = routes_empty c.args.cycle n fs ws flows.items windows.items;
+      tables = tables_empty c.args.timing.cycle n fs ws flows.items windows.items;
+      allowed = flows_empty c.args.timing.cycle n fs ws flows.items windows.items;
+      stretches = stretches_empty c.args.timing.cycle n fs ws flows.items windows.items;
+      placed = windows_empty c.args.timing.cycle n fs ws flows.items windows.items;
+      routes = routes_empty c.args.timing.cycle n fs ws flows.items windows.items;
       reserved = (flows.capacity, windows.capacity);
     }
