@@ -1,8 +1,7 @@
 -- An empty draft keeps what every draft keeps.
-use Rattle.std.proofs.Common.{◌≡◌, ℕ, ◌^◌, ◌<◌, true, ◌&&◌, ltb, leb, List, [], map, length, get_or, ap, ◌∙◌, arith}
+use Rattle.std.proofs.Common.{◌≡◌, ℕ, true, ◌&&◌, ltb, leb, List, [], map, length, get_or, ap, ◌∙◌, arith}
 use Rattle.std.proofs.lemmas.List.{length-map, get_or-map}
 use Rattle.std.proofs.lemmas.Bool.{and_parts, ltb-true, leb-true}
-use Rattle.std.specs.List.{All}
 use Rattle.schedule.specs.declared.tables.Port.{Port}
 use Rattle.schedule.specs.declared.tables.Flow.{Flow}
 use Rattle.schedule.specs.declared.tables.Window.{Window}
@@ -17,12 +16,6 @@ timing_held cycle error extension e =
     let (a, b) = and_parts (within 1000 1250000 cycle) (leb error 125 && ltb extension cycle) e in
     let (c, d) = and_parts (leb error 125) (ltb extension cycle) b in
     (within_low 1000 1250000 cycle a, within_high 1000 1250000 cycle a, leb-true error 125 c, ltb-true extension cycle d)
-
-pub delays_fit : (delays : List ℕ) → ports_allowed delays ≡ true → All (λ d. d < 2 ^ 32) delays
-delays_fit delays e i d h =
-    let (a, b) = and_parts (within 1 16 (length delays)) (each_below 25001 delays) e in
-    let low = each_below_at 25001 delays b i d h in
-    omega arith
 
 module _ (ports : List Port) (delays : List ℕ) (e : ports_allowed delays ≡ true) (is : ports ≡ map port_with delays) where
   long : length ports ≡ length delays

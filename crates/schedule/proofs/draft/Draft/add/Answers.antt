@@ -1,21 +1,8 @@
 use Rattle.std.proofs.Common.{ℕ, ◌<◌, ◌≤◌, [], ◌∷◌, ◌++◌, length, vec_items, vec_len, vec_capacity, sym, ap, ◌∙◌, arith}
 use Rattle.schedule.specs.declared.tables.Flow.{Flow}
 use Rattle.schedule.specs.Limits.{flow_allowed, route_allowed, offsets_allowed}
-use Rattle.schedule.proofs.Adding.{spaced_length, spaced_below, routed_most, held_after_add}
+use Rattle.schedule.proofs.Adding.{held_after_add}
 use Rattle.schedule.proofs.draft.Draft.add.Goals as goal
-
-pub push_windows-requires : goal.push_windows-requires
-push_windows-requires c =
-    let d = c.args.self.now in
-    let route = c.args.request.route.now in
-    let offsets = c.args.offsets.now in
-    let spaced = ap (λ n. offsets_allowed n route offsets) (sym c.from-cycle.ensures) ∙ sym c.if-not-are_offsets_allowed.ensures in
-    let most = routed_most c.len-2.result route (sym c.if-not-is_route_allowed.ensures) in
-    record {
-      same_length = spaced_length d.cycle route offsets spaced;
-      room = omega (arith, d.tables, d.reserved, d.windows.ok.0, d.flows.ok.0, c.len.ensures);
-      fits = λ i h. let lt = spaced_below d.cycle route offsets spaced i h in let m = d.timing.1 in omega arith;
-    }
 
 pub invariant_of-self : goal.invariant_of-self
 invariant_of-self c =

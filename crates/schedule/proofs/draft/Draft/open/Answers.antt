@@ -1,9 +1,6 @@
 use Rattle.std.proofs.Common.{vec_items, vec_len, sym}
-use Rattle.schedule.proofs.Opening.{delays_fit, timing_held, ports_held, delays_held, tables_empty, flows_empty, stretches_empty, windows_empty, routes_empty}
+use Rattle.schedule.proofs.Opening.{timing_held, ports_held, delays_held, tables_empty, flows_empty, stretches_empty, windows_empty, routes_empty}
 use Rattle.schedule.proofs.draft.Draft.open.Goals as goal
-
-pub ports_with-requires : goal.ports_with-requires
-ports_with-requires c = delays_fit c.args.delays.now (sym c.if-not-are_ports_allowed.ensures)
 
 pub invariant_of-result : goal.invariant_of-result
 invariant_of-result c =

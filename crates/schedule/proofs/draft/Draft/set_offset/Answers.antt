@@ -1,10 +1,8 @@
-use Rattle.std.proofs.Common.{◌≡◌, ◌+◌, ◌<◌, length, get_or, set, vec_items, vec_len, ap, ◌∙◌, arith, rules}
+use Rattle.std.proofs.Common.{◌≡◌, ◌+◌, ◌<◌, length, get_or, set, vec_items, vec_len, ap, arith}
 use Rattle.std.proofs.lemmas.List.{get_or_read}
 use Rattle.schedule.specs.declared.tables.Flow.{Flow}
 use Rattle.schedule.specs.declared.tables.Window.{Window}
 use Rattle.schedule.specs.Plan.{no_flow, no_window}
-use Rattle.schedule.specs.Drafts.{plan_of}
-use Rattle.schedule.specs.Raising.{retimed, set_offset}
 use Rattle.schedule.proofs.Moving.{held_after_move}
 use Rattle.schedule.proofs.draft.Draft.set_offset.Goals.{After-index}
 use Rattle.schedule.proofs.draft.Draft.set_offset.Goals as goal
@@ -14,9 +12,6 @@ first_read c = ap (λ (x : Flow). x.first) (get_or_read (vec_items c.args.self.n
 
 in_table : (c : goal.After-index) → c.index.result.now.first + c.args.hop < length (vec_items c.args.self.now.windows)
 in_table c = let e = first_read c in let s = (c.args.self.now.stretches c.args.flow c.requires.has.0).2 in omega (arith, c.requires.has.1)
-
-pub overflow_add-place : goal.overflow_add-place
-overflow_add-place c = let e = in_table c in search rules
 
 pub invariant_of-self : goal.invariant_of-self
 invariant_of-self c =
@@ -38,13 +33,3 @@ invariant_of-self c =
       routes = held.4;
       reserved = d.reserved;
     }
-
-pub returns : goal.returns
-returns c =
-    let P = plan_of c.args.self.now in
-    let ws = vec_items c.args.self.now.windows in
-    let before = (goal.at.returns c).After-index in
-    let i = c.index.result.now.first + c.args.hop in
-    let at = get_or_read ws i c.index_mut.result.now (in_table before) c.index_mut.ensures.value no_window in
-    let is = ap (λ (w : Window). set ws i (record { port = w.port; offset = c.args.to })) at in
-    ap (retimed P) (is ∙ ap (λ n. set_offset ws (n + c.args.hop) c.args.to) (first_read before))
