@@ -6,7 +6,7 @@ use Rattle.schedule.specs.declared.tables.Flow.{Flow}
 use Rattle.schedule.specs.declared.tables.Window.{Window}
 use Rattle.schedule.specs.Plan.{no_flow, no_window}
 use Rattle.schedule.specs.Limits.{within, each_below, ports_differ, flow_allowed, route_allowed, offsets_allowed}
-use Rattle.schedule.specs.Held.{TablesHeld, FlowsHeld, StretchesHeld, WindowsHeld, RoutesHeld}
+use Rattle.schedule.specs.Held.{TablesHeld, FlowsHeld, StretchesHeld, OrderHeld, WindowsHeld, RoutesHeld}
 use Rattle.schedule.specs.Drafts.{windows_along}
 use Rattle.schedule.proofs.Limited.{within_low, within_high, each_below_at, differ_at}
 use Rattle.schedule.proofs.Along.{along_length, along_at, along_ports}
@@ -47,7 +47,7 @@ module _ (ports : ℕ) (route : List ℕ) (routed : route_allowed ports route �
   routed_most = within_high 1 6 (length route) (and_parts (within 1 6 (length route)) (ports_differ ports route) routed).0
 
 module _ (cycle ports : ℕ) (fs : List Flow) (ws : List Window)
-    (tables : TablesHeld fs ws) (flows : FlowsHeld cycle fs) (stretches : StretchesHeld fs ws) (windows : WindowsHeld cycle ports ws) (routes : RoutesHeld ports fs ws)
+    (tables : TablesHeld fs ws) (flows : FlowsHeld cycle fs) (stretches : StretchesHeld fs ws) (windows : WindowsHeld cycle ports ws) (routes : RoutesHeld ports fs ws) (order : OrderHeld fs)
     (few : length fs < 16) (release octets deadline : ℕ) (route offsets : List ℕ)
     (allowed : flow_allowed cycle release octets deadline ≡ true) (routed : route_allowed ports route ≡ true) (spaced : offsets_allowed cycle route offsets ≡ true) where
   abbrev flow : Flow
@@ -91,6 +91,21 @@ module _ (cycle ports : ℕ) (fs : List Flow) (ws : List Window)
       (λ i h. let (a, b, e) = stretches i h in (a, b, omega arith))
       (routed_least ports route routed, routed_most ports route routed, omega arith)
 
+  order_more : OrderHeld (fs ++ flow ∷ [])
+  order_more f g lg lf =
+      let n = length_push fs flow in
+      let e = get_or_append_left fs (flow ∷ []) no_flow g (omega arith) in
+      let first = ap (λ (x : Flow). x.first) e in
+      let hops = ap (λ (x : Flow). x.hops) e in
+      elim (cases_lt f (length fs)) [
+        | inl l ↦ (let a = ap (λ (x : Flow). x.first) (get_or_append_left fs (flow ∷ []) no_flow f l) in omega (arith, order f g lg l))
+        | inr l ↦
+            (let z : f - length fs ≡ 0 = omega arith in
+            let last = get_or-append_right fs (flow ∷ []) (length fs) f no_flow refl l ∙ ap (λ i. get_or (flow ∷ []) i no_flow) z in
+            let a = ap (λ (x : Flow). x.first) last in
+            omega (arith, (stretches g (omega arith)).2))
+      ]
+
   windows_more : WindowsHeld cycle ports (ws ++ new)
   windows_more =
       each_append no_window (λ (w : Window). (w.port < ports) × (w.offset < cycle)) ws new windows
@@ -121,8 +136,8 @@ module _ (cycle ports : ℕ) (fs : List Flow) (ws : List Window)
       ∙ ap (ports_differ ports) (along_ports route offsets same_length) ∙ differ)
 
   pub held_after_add : (fs' : List Flow) (ws' : List Window) → fs' ≡ fs ++ flow ∷ [] → ws' ≡ ws ++ new
-      → TablesHeld fs' ws' × FlowsHeld cycle fs' × StretchesHeld fs' ws' × WindowsHeld cycle ports ws' × RoutesHeld ports fs' ws'
+      → TablesHeld fs' ws' × FlowsHeld cycle fs' × StretchesHeld fs' ws' × WindowsHeld cycle ports ws' × RoutesHeld ports fs' ws' × OrderHeld fs'
   held_after_add fs' ws' is_fs is_ws =
-      let Held : List Flow → List Window → Type 0 = λ fs ws. TablesHeld fs ws × FlowsHeld cycle fs × StretchesHeld fs ws × WindowsHeld cycle ports ws × RoutesHeld ports fs ws in
+      let Held : List Flow → List Window → Type 0 = λ fs ws. TablesHeld fs ws × FlowsHeld cycle fs × StretchesHeld fs ws × WindowsHeld cycle ports ws × RoutesHeld ports fs ws × OrderHeld fs in
       subst (λ (l : List Flow). Held l ws') (sym is_fs) (subst (λ (l : List Window). Held (fs ++ flow ∷ []) l) (sym is_ws)
-      (tables_more, flows_more, stretches_more, windows_more, routes_more))
+      (tables_more, flows_more, stretches_more, windows_more, routes_more, order_more))

@@ -38,8 +38,8 @@ module _ (ws : List Window) (i to : ℕ) (lt : i < length ws) where
   moved_length = length-set ws i (record { port = (get_or ws i no_window).port; offset = to })
 
   pub held_after_move : (cycle ports : ℕ) (fs : List Flow) → TablesKeep cycle ports fs ws → to < cycle → (others : List Window) → others ≡ set_offset ws i to → TablesKeep cycle ports fs others
-  held_after_move cycle ports fs (tables, flows, stretches, windows, routes) low others is =
-      subst (TablesKeep cycle ports fs) (sym is) ((tables.0, omega (arith, moved_length)), flows, more_stretches, more_windows, routes_alike ports fs ws (set_offset ws i to) (moved_ports ws i to) routes)
+  held_after_move cycle ports fs (tables, flows, stretches, windows, routes, order) low others is =
+      subst (TablesKeep cycle ports fs) (sym is) ((tables.0, omega (arith, moved_length)), flows, more_stretches, more_windows, routes_alike ports fs ws (set_offset ws i to) (moved_ports ws i to) routes, order)
     where
       more_stretches : StretchesHeld fs (set_offset ws i to)
       more_stretches f h = let (a, b, e) = stretches f h in (a, b, omega (arith, moved_length))

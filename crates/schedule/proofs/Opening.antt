@@ -7,7 +7,7 @@ use Rattle.schedule.specs.declared.tables.Flow.{Flow}
 use Rattle.schedule.specs.declared.tables.Window.{Window}
 use Rattle.schedule.specs.Plan.{no_port}
 use Rattle.schedule.specs.Limits.{within, each_below, timing_allowed, ports_allowed}
-use Rattle.schedule.specs.Held.{TimingHeld, PortsHeld, DelaysHeld, TablesHeld, FlowsHeld, StretchesHeld, WindowsHeld, RoutesHeld}
+use Rattle.schedule.specs.Held.{TimingHeld, PortsHeld, DelaysHeld, TablesHeld, FlowsHeld, StretchesHeld, OrderHeld, WindowsHeld, RoutesHeld}
 use Rattle.schedule.specs.Drafts.{port_with}
 use Rattle.schedule.proofs.Limited.{within_low, within_high, each_below_at}
 
@@ -53,6 +53,9 @@ module _ (cycle ports : ℕ) (flows : List Flow) (windows : List Window) (no_flo
 
   pub stretches_empty : StretchesHeld flows windows
   stretches_empty f h = let a = flowless in absurd (omega arith)
+
+  pub order_empty : OrderHeld flows
+  order_empty f g l h = let a = flowless in absurd (omega arith)
 
   pub windows_empty : WindowsHeld cycle ports windows
   windows_empty i h = let a = windowless in absurd (omega arith)

@@ -33,6 +33,10 @@ abbrev pub StretchesHeld : List Flow → List Window → Type 0
 StretchesHeld flows windows = (f : ℕ) → f < length flows
     → (1 ≤ (slice_index_or flows f no_flow).hops) × ((slice_index_or flows f no_flow).hops ≤ 6) × ((slice_index_or flows f no_flow).first + (slice_index_or flows f no_flow).hops ≤ length windows)
 
+-- the windows of a flow stand behind those of the flows before it
+abbrev pub OrderHeld : List Flow → Type 0
+OrderHeld flows = (f g : ℕ) → g < f → f < length flows → (slice_index_or flows g no_flow).first + (slice_index_or flows g no_flow).hops ≤ (slice_index_or flows f no_flow).first
+
 -- each window is at a port of the plan, and begins in the cycle
 abbrev pub WindowsHeld : ℕ → ℕ → List Window → Type 0
 WindowsHeld cycle ports windows = (i : ℕ) → i < length windows

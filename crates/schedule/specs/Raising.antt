@@ -7,7 +7,7 @@ use Rattle.schedule.specs.declared.tables.Window.{Window}
 use Rattle.schedule.specs.Numbers.{flow_number}
 use Rattle.schedule.specs.Plan.{Plan, no_window, flow_at, hop_count, port_at, offset_at}
 use Rattle.schedule.specs.Rules.{FlowKeeps, Apart}
-use Rattle.schedule.specs.Held.{TablesHeld, FlowsHeld, StretchesHeld, WindowsHeld, RoutesHeld}
+use Rattle.schedule.specs.Held.{TablesHeld, FlowsHeld, StretchesHeld, OrderHeld, WindowsHeld, RoutesHeld}
 use Rattle.schedule.specs.Drafts.{plan_of}
 use Rattle.schedule.specs.Placing.{NoneFit, place_refused, Places}
 
@@ -68,7 +68,7 @@ rise_left cycle (w ∷ ws) = (cycle - w.offset) + rise_left cycle ws
 
 -- the tables are such as a draft keeps
 abbrev pub TablesKeep : ℕ → ℕ → List Flow → List Window → Type 0
-TablesKeep cycle ports flows windows = TablesHeld flows windows × FlowsHeld cycle flows × StretchesHeld flows windows × WindowsHeld cycle ports windows × RoutesHeld ports flows windows
+TablesKeep cycle ports flows windows = TablesHeld flows windows × FlowsHeld cycle flows × StretchesHeld flows windows × WindowsHeld cycle ports windows × RoutesHeld ports flows windows × OrderHeld flows
 
 -- a flow is kept as placing keeps it, or there are no offsets and the plan is as it was; a limit that refuses it leaves the draft the same value
 abbrev pub KeepsLeast : Draft → ℕ → ℕ → ℕ → List ℕ → Result (Option ℕ) FlowRefusal → Draft → Type 0

@@ -1,6 +1,6 @@
 // A draft: what has been entered, rules unseen.
 ghost use Rattle.std.specs.Prelude.{◌≤◌, vec_len, vec_capacity};
-ghost use Rattle.schedule.specs.Held.{TimingHeld, PortsHeld, DelaysHeld, TablesHeld, FlowsHeld, StretchesHeld, WindowsHeld, RoutesHeld};
+ghost use Rattle.schedule.specs.Held.{TimingHeld, PortsHeld, DelaysHeld, TablesHeld, FlowsHeld, StretchesHeld, OrderHeld, WindowsHeld, RoutesHeld};
 
 use crate::tables::{Flow, Port, Window};
 
@@ -28,6 +28,7 @@ pub struct Draft {
     ghost allowed: { FlowsHeld cycle flows.items },
     ghost stretches: { StretchesHeld flows.items windows.items },
     ghost placed: { WindowsHeld cycle (vec_len ports) windows.items },
+    ghost ordered: { OrderHeld flows.items },
     ghost routes: { RoutesHeld (vec_len ports) flows.items windows.items },
     ghost reserved: { (16 ≤ vec_capacity flows) × (96 ≤ vec_capacity windows) },
 }

@@ -7,7 +7,8 @@ pub struct Port {
     pub delay: u32,
 }
 
-/// A flow: one frame a cycle along a route. Its hops are a stretch of the window table.
+/// A flow: one frame a cycle along a route. Its hops are a stretch of the one window table, for which `open` reserves all memory:
+/// a `Vec` for each flow would have to be allocated when the flow is added.
 #[derive(Clone, Copy, Debug, PartialEq, Eq, Default)]
 pub struct Flow {
     pub release: u32,

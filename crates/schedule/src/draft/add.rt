@@ -51,6 +51,7 @@ impl Draft {
         if !request.are_offsets_allowed(cycle, offsets) {
             return Err(FlowRefusal::BadOffsets);
         }
+        // the casts are proved to lose no bits: `try_from` would have an error that cannot come
         let flow = Flow {
             release: request.release as u32,
             octets: request.octets as u32,

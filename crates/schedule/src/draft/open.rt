@@ -44,6 +44,7 @@ impl Draft {
         let ports = ports_with(heap, delays)?;
         let flows = Vec::with_capacity(heap, MAX_FLOWS)?;
         let windows = Vec::with_capacity(heap, MAX_WINDOWS)?;
+        // the casts are proved to lose no bits
         Ok(Draft {
             cycle: timing.cycle as u32,
             error: timing.error as u32,

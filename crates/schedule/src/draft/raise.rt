@@ -3,7 +3,7 @@ ghost use Rattle.std.specs.Prelude.{◌≡◌, ◌+◌, ◌<◌, MatchOption};
 ghost use Rattle.schedule.specs.Plan.{HasHop, flow_count, flow_at, late_at};
 ghost use Rattle.schedule.specs.Rules.{Breaks};
 ghost use Rattle.schedule.specs.Drafts.{plan_of};
-ghost use Rattle.schedule.specs.Raising.{retimed, Behind, MustRise, Hopeless, TooClose, Raises, set_offset};
+ghost use Rattle.schedule.specs.Raising.{retimed, MustRise, Hopeless, TooClose, Raises, set_offset};
 
 use super::Draft;
 use super::hop::Hop;
@@ -20,7 +20,6 @@ impl Hop<'_> {
     // Past a window that is too close: behind it where ours is not later, else so that the frame comes after it has ended.
     fn raise_past(&self, other: &Hop<'_>) -> Option<Raise>
         requires same { other.now.draft.now ≡ self.now.draft.now }
-        requires behind { Behind (plan_of self.now.draft.now) self.now.flow }
         requires close { TooClose (plan_of self.now.draft.now) self.now.flow self.now.hop other.now.flow other.now.hop }
         ensures { MatchOption result (Hopeless (plan_of self.now.draft.now) self.now.flow) (λ x. MustRise (plan_of self.now.draft.now) self.now.flow x.hop x.to) }
     {
@@ -48,8 +47,7 @@ impl Hop<'_> {
 
     // What the first rule that the hop breaks forces.
     fn forced_raise(&self, rule: BrokenRule) -> Option<Raise>
-        requires behind { Behind (plan_of self.now.draft.now) self.now.flow }
-        requires broken { Breaks (plan_of self.now.draft.now) rule self.now.flow self.now.hop }
+        requires { Breaks (plan_of self.now.draft.now) rule self.now.flow self.now.hop }
         ensures { MatchOption result (Hopeless (plan_of self.now.draft.now) self.now.flow) (λ x. MustRise (plan_of self.now.draft.now) self.now.flow x.hop x.to) }
     {
         match rule {
@@ -73,8 +71,7 @@ impl Hop<'_> {
 
     // Likewise within the cycle: no offset lies past it.
     fn next_raise(&self, rule: BrokenRule) -> Option<Raise>
-        requires behind { Behind (plan_of self.now.draft.now) self.now.flow }
-        requires broken { Breaks (plan_of self.now.draft.now) rule self.now.flow self.now.hop }
+        requires { Breaks (plan_of self.now.draft.now) rule self.now.flow self.now.hop }
         ensures { MatchOption result (Hopeless (plan_of self.now.draft.now) self.now.flow) (λ x. MustRise (plan_of self.now.draft.now) self.now.flow x.hop x.to × (x.to < self.now.draft.now.cycle)) }
     {
         let raise = self.forced_raise(rule)?;
@@ -98,8 +95,7 @@ impl Draft {
 
     // Raises one offset after another while a rule is broken. Says whether the flow now keeps the rules; if not, no offsets do.
     pub(super) fn raise_offsets(&mut self, flow: usize) -> bool
-        requires present { flow < flow_count (plan_of self.old) }
-        requires behind { Behind (plan_of self.old) flow }
+        requires { flow < flow_count (plan_of self.old) }
         ensures { Raises (plan_of self.old) flow result (plan_of self.new) }
     {
         while let Some((hop, rule)) = self.broken_hop(flow) {

@@ -63,6 +63,7 @@ impl<'a> Hop<'a> {
         ensures { MatchOption result (ApartFrom (plan_of self.now.draft.now) self.now.flow self.now.hop other) (λ x. (x.draft.now ≡ self.now.draft.now) × (x.flow ≡ other) × TooClose (plan_of self.now.draft.now) self.now.flow self.now.hop other x.hop) }
     {
         let port = self.window().port;
+        // by number, of which a `Hop` is made
         for hop in 0..self.draft.flows[other].hops {
             let near = Hop {
                 draft: self.draft,

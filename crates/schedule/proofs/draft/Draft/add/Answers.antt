@@ -21,7 +21,7 @@ invariant_of-self c =
     let flow : ℕ → Flow = λ i. record { release = r.release; octets = r.octets; deadline = r.deadline; first = i; hops = length route } in
     let is_fs = c.push_reserved.ensures.items ∙ ap (λ i. fs ++ flow i ∷ []) first in
     let is_ws = c.push_windows.ensures.items in
-    let held = held_after_add d.cycle n fs ws d.tables d.allowed d.stretches d.placed d.routes few r.release r.octets r.deadline route offsets allowed routed spaced
+    let held = held_after_add d.cycle n fs ws d.tables d.allowed d.stretches d.placed d.routes d.ordered few r.release r.octets r.deadline route offsets allowed routed spaced
     (vec_items c.push_reserved.new.self) (vec_items c.push_windows.new.windows) is_fs is_ws in
     let room : (16 ≤ vec_capacity c.push_reserved.new.self) × (96 ≤ vec_capacity c.push_windows.new.windows) = (omega (arith, d.reserved, c.push_reserved.ensures.capacity), omega (arith, d.reserved, c.push_windows.ensures.capacity)) in
     record {
@@ -31,6 +31,7 @@ invariant_of-self c =
       tables = held.0;
       allowed = held.1;
       stretches = held.2;
+      ordered = held.5;
       placed = held.3;
       routes = held.4;
       reserved = room;

@@ -6,10 +6,10 @@ use Rattle.schedule.specs.declared.refusal.FlowRefusal.{FlowRefusal}
 use Rattle.schedule.specs.Numbers.{flow_number}
 use Rattle.schedule.specs.Plan.{Plan, flow_count}
 use Rattle.schedule.specs.Drafts.{plan_of, with_flow}
-use Rattle.schedule.specs.Raising.{cut_back, Raises, Behind, TablesKeep, KeepsLeast}
+use Rattle.schedule.specs.Raising.{cut_back, Raises, TablesKeep, KeepsLeast}
 use Rattle.schedule.proofs.Adding.{routed_least, routed_most}
 use Rattle.schedule.proofs.Lowest.{lowest, lowest_zero, lowest_length, routed, place_passes, refused_by_limits}
-use Rattle.schedule.proofs.Placed.{all_behind, old_again, none_fit, placed}
+use Rattle.schedule.proofs.Placed.{old_again, none_fit, placed}
 use Rattle.schedule.proofs.draft.Draft.keep_least.Goals.{In_ok-flow, After-raise_offsets}
 use Rattle.schedule.proofs.draft.Draft.keep_least.Goals as goal
 
@@ -53,13 +53,6 @@ module _ (c : goal.In_ok-flow) where
       (routed_most (length P.ports) route (routed P c.args.request.release c.args.request.octets c.args.request.deadline route c.trial_hops-hops.result c.in_ok-flow.ensures.0))
       c.trial_hops-hops.ensures
 
-pub raise_offsets-requires-clause-behind : goal.raise_offsets-requires-clause-behind
-raise_offsets-requires-clause-behind c =
-    let before = (goal.at.raise_offsets-requires-clause-behind c).In_ok-flow in
-    let r = c.args.request in
-    subst (λ (p : Plan). Behind p c.in_ok-flow.flow) (sym (is_tried before))
-    (subst (Behind (tried before)) (sym (is_last before)) (all_behind (P before) c.args.self.now.stretches r.release r.octets r.deadline (route before) (zeros before)))
-
 module _ (c : goal.After-raise_offsets) where
   abbrev before : goal.In_ok-flow
   before = (goal.at.After-raise_offsets c).In_ok-flow
@@ -89,7 +82,7 @@ module _ (c : goal.After-raise_offsets) where
       let e = restored in
       let n = after.ports.ok.0 ∙ ap (λ (p : Plan). length p.ports) e ∙ sym d.ports.ok.0 in
       subst (λ m. TablesKeep after.cycle m (take c.in_ok-flow.flow (vec_items after.flows)) (take c.len-windows.result (vec_items after.windows))) (sym n)
-      (subst (λ (p : Plan). TablesKeep p.cycle (vec_len d.ports) p.flows p.windows) (sym e) (d.tables, d.allowed, d.stretches, d.placed, d.routes))
+      (subst (λ (p : Plan). TablesKeep p.cycle (vec_len d.ports) p.flows p.windows) (sym e) (d.tables, d.allowed, d.stretches, d.placed, d.routes, d.ordered))
 
 pub drop-trial-requires : goal.drop-trial-requires
 drop-trial-requires c = restorable (goal.at.drop-trial-requires c).After-raise_offsets

@@ -1,5 +1,5 @@
 use Rattle.std.proofs.Common.{vec_items, vec_len, sym}
-use Rattle.schedule.proofs.Opening.{timing_held, ports_held, delays_held, tables_empty, flows_empty, stretches_empty, windows_empty, routes_empty}
+use Rattle.schedule.proofs.Opening.{timing_held, ports_held, delays_held, tables_empty, flows_empty, stretches_empty, order_empty, windows_empty, routes_empty}
 use Rattle.schedule.proofs.draft.Draft.open.Goals as goal
 
 pub invariant_of-result : goal.invariant_of-result
@@ -20,6 +20,7 @@ invariant_of-result c =
       tables = tables_empty c.args.timing.cycle n fs ws flows.items windows.items;
       allowed = flows_empty c.args.timing.cycle n fs ws flows.items windows.items;
       stretches = stretches_empty c.args.timing.cycle n fs ws flows.items windows.items;
+      ordered = order_empty c.args.timing.cycle n fs ws flows.items windows.items;
       placed = windows_empty c.args.timing.cycle n fs ws flows.items windows.items;
       routes = routes_empty c.args.timing.cycle n fs ws flows.items windows.items;
       reserved = (flows.capacity, windows.capacity);

@@ -26,7 +26,7 @@ module _ (c : goal.After-set_offset) where
   in_table : (flow_at trial c.args.flow).first + c.in-Some-next_raise.raise.hop < length trial.windows
   in_table =
       let many = ap flow_count c.loop-hop.invariant.0 in
-      let s = (c.loop-hop.self.stretches c.args.flow (omega (arith, c.requires.present))).2 in
+      let s = (c.loop-hop.self.stretches c.args.flow (omega (arith, c.requires))).2 in
       omega (arith, rise.hop_in)
 
 pub loop-hop-smaller : goal.loop-hop-smaller

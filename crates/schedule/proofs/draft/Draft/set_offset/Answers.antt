@@ -21,7 +21,7 @@ invariant_of-self c =
     let lt = in_table (goal.at.invariant_of-self c).After-index in
     let at = get_or_read ws i c.index_mut.result.now lt c.index_mut.ensures.value no_window in
     let is = ap (λ (w : Window). set ws i (record { port = w.port; offset = c.args.to })) at in
-    let held = held_after_move ws i c.args.to lt d.cycle (vec_len d.ports) (vec_items d.flows) (d.tables, d.allowed, d.stretches, d.placed, d.routes) c.requires.low (set ws i (record { port = c.index_mut.result.now.port; offset = c.args.to })) is in
+    let held = held_after_move ws i c.args.to lt d.cycle (vec_len d.ports) (vec_items d.flows) (d.tables, d.allowed, d.stretches, d.placed, d.routes, d.ordered) c.requires.low (set ws i (record { port = c.index_mut.result.now.port; offset = c.args.to })) is in
     record {
       timing = d.timing;
       counted = d.counted;
@@ -29,6 +29,7 @@ invariant_of-self c =
       tables = held.0;
       allowed = held.1;
       stretches = held.2;
+      ordered = held.5;
       placed = held.3;
       routes = held.4;
       reserved = d.reserved;

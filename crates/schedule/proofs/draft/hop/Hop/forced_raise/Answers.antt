@@ -11,14 +11,14 @@ pub returns-in-ReachTooLate : goal.returns-in-ReachTooLate
 returns-in-ReachTooLate c =
     let x = c.args.self.now in
     let P = plan_of x.draft.now in
-    let broken = subst (λ (r : BrokenRule). Breaks P r x.flow x.hop) c.in-ReachTooLate.is c.requires.broken in
+    let broken = subst (λ (r : BrokenRule). Breaks P r x.flow x.hop) c.in-ReachTooLate.is c.requires in
     subst (MustRise P x.flow x.hop) (sym c.least_reached.ensures) (rise_reach P x.flow x.hop x.there.1 broken.2)
 
 pub returns-in-EndTooLate : goal.returns-in-EndTooLate
 returns-in-EndTooLate c =
     let x = c.args.self.now in
     let P = plan_of x.draft.now in
-    let broken = λ (r : BrokenRule) (e : c.args.rule ≡ r). subst (λ (y : BrokenRule). Breaks P y x.flow x.hop) e c.requires.broken in
+    let broken = λ (r : BrokenRule) (e : c.args.rule ≡ r). subst (λ (y : BrokenRule). Breaks P y x.flow x.hop) e c.requires in
     elim c.in-EndTooLate.is [
       | inl e ↦ hopeless_end P x.flow x.hop x.there.1 (broken EndTooLate e).1
       | inr (inl e) ↦ hopeless_delivery P x.flow x.hop x.there.1 (broken DeliveryPastCycle e).3
