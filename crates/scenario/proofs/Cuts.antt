@@ -1,7 +1,7 @@
 -- What is cut off a line: its comment, and one word after another.
 use Rattle.std.proofs.Common.{◌≡◌, ℕ, ◌+◌, ◌<◌, ◌≤◌, Bool, true, false, not, cond, ◌==◌, List, [], ◌∷◌, ◌++◌, length, get_or, take, drop, Some, None, Option, MatchOption, IfSome, unwrap_or, refl, sym, ap, ◌∙◌, ⊎_elim, append_assoc, append-nil, arith, rules, one-add, lit<}
 use denote.Ref.{Bor}
-use Rattle.std.specs.Char.{encode_utf8, char_set_contains, IsScalar}
+use Rattle.std.specs.Char.{encode_utf8, char_set_contains}
 use Rattle.std.specs.List.{before_first, position_or_len, All}
 use Rattle.std.specs.Str.{NoCharPasses}
 use Rattle.std.specs.Str.Pattern.{HasPassingCharAt, FindsBy, FindsPrefixBy, CutsPrefixes, IsTrimStartMatches, SplitsAroundMatch}
@@ -58,9 +58,6 @@ cut_word b bs [] rest c inside all h e =
     let same : b ≡ c = cc in absurd (both_ways (parts b) inside (ap parts same ∙ h))
 cut_word b bs (x ∷ xs) rest c inside all h e = ap words_of e ∙ word_on [] (x ∷ xs) rest c all h
 
-low_scalar : (b : ℕ) → b < 128 → IsScalar b
-low_scalar b lt = search rules
-
 -- one gap is cut off the front
 cut_gap : (m : List ℕ) (n : ℕ) → HasPassingCharAt parts m 0 n → words_of m ≡ words_of (drop n m)
 cut_gap m n (c, h, at) =
@@ -82,7 +79,7 @@ cut_gaps (n ∷ ns) s r (m, cuts, found, rest) = cut_gaps ns s m cuts ∙ cut_ga
 -- and what is left begins with a word
 begins_inside : (o : Option ℕ) (b : ℕ) (bs : List ℕ) → GapInFront (b ∷ bs) o → IfSome o (λ n. n ≡ 0) → Inside b
 begins_inside None b bs found h =
-    false_from_ne_true (parts b) (λ gap. both_ways (parts b) (found parts gaps b bs (low_scalar b (gap_low b gap)) (ap (λ e. e ++ bs) (sym (gap_encoded b gap)))) gap)
+    false_from_ne_true (parts b) (λ gap. both_ways (parts b) (found parts gaps b bs (let low = gap_low b gap in search rules) (ap (λ e. e ++ bs) (sym (gap_encoded b gap)))) gap)
 begins_inside (Some n) b bs found h =
     let gap = found parts gaps in
     absurd (omega (arith, len_utf8_bounds gap.0, gap.2.ends))

@@ -41,6 +41,7 @@ impl FromStr for Name {
     }
 }
 
+// What takes the heap reads a list, and may lack memory: so the heap is no field of the words.
 fn read_open(heap: Global, words: &mut Words) -> Result<Call, Problem>
     ensures { Reads asks result (open_form (left words.old)) true }
 {
@@ -96,6 +97,7 @@ fn read_only_number(words: &mut Words) -> Result<u64, Problem>
     Ok(number)
 }
 
+// A direct match: each call has fields of its own, and closures in a table would need one shape.
 fn read_call(heap: Global, name: Name, words: &mut Words) -> Result<Call, Problem>
     ensures { Reads asks result (call_form name (left words.old)) (has_lists name) }
 {

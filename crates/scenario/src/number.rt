@@ -4,7 +4,7 @@ ghost use Rattle.scenario.specs.Texts.{digits, number_of};
 
 use crate::call::Problem;
 
-fn has_digits_alone(word: &str) -> bool
+fn is_all_digits(word: &str) -> bool
     ensures { result ≡ digits word.now }
 {
     word.bytes().all(|b| b.is_ascii_digit())
@@ -14,7 +14,7 @@ fn has_digits_alone(word: &str) -> bool
 pub(crate) fn read_number(word: &str) -> Result<u64, Problem>
     ensures { result ≡ number_of word.now }
 {
-    if word.is_empty() || !has_digits_alone(word) {
+    if word.is_empty() || !is_all_digits(word) {
         return Err(Problem::NotANumber);
     }
     word.parse().map_err(|_| Problem::NumberTooLarge)

@@ -45,6 +45,7 @@ impl<'a> Words<'a> {
     }
 
     /// Numbers up to the word `stop`, or where there is none to the end of the line.
+    /// A `for` over `by_ref()` was tried: what it leaves in `self` is not known (`returns-in-None-stop`).
     pub(crate) fn numbers(&mut self, heap: Global, stop: Option<&str>) -> Result<Vec<u64>, Problem>
         ensures { Reads (λ v. (v.items, left self.new)) result (numerals_to (option_copied stop.entry) (left self.old)) (begins_number (left self.old)) }
     {
