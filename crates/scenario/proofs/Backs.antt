@@ -1,25 +1,23 @@
 -- A line that is written is read back.
-use Rattle.std.proofs.Common.{◌≡◌, ℕ, ◌^◌, ◌<◌, Bool, true, false, not, ◌&&◌, ◌||◌, eqb, List, [], ◌∷◌, ◌++◌, map, length, Some, Ok, codes, decimal, Result, sym, refl, ap, ◌∙◌, ⊎_elim, append_assoc, append-nil, arith, rules}
-use Rattle.std.specs.List.{AllByRecursion}
+use Rattle.std.proofs.Common.{◌≡◌, ℕ, ◌^◌, ◌<◌, Bool, true, false, not, ◌&&◌, ◌||◌, eqb, List, [], ◌∷◌, ◌++◌, map, length, Some, Ok, codes, decimal, Result, sym, refl, ap, ◌∙◌, subst, ⊎_elim, append_assoc, append-nil, arith, rules}
+use Rattle.std.specs.List.{AllByRecursion, list_all}
 use Rattle.std.specs.Str.{bytes_eq}
 use Rattle.std.proofs.lemmas.Fmt.{decimal_nonempty, digits_decimal, digits_value-decimal}
 use Rattle.std.proofs.lemmas.Slice.Eq.{bytes_eq-Decides}
-use Rattle.std.proofs.lemmas.Str.Parse.{IsNumeralModel, numerals_by_fold}
 use Rattle.std.proofs.lemmas.Bool.{and_parts, not-true, or_parts, cond-true, cond-false, both_ways, cases_Bool}
 use Rattle.std.proofs.lemmas.Bool.Decides.{nat_tests}
 use Rattle.scenario.specs.declared.call.Problem.{Problem}
-use Rattle.scenario.specs.Texts.{uncommented, parts, ended, words_after, words_of, digit, digits, value_after, value_of, fitting, number_of}
+use Rattle.scenario.specs.Texts.{uncommented, parts, ended, words_after, words_of, digit, digits, value_of, fitting, number_of}
 use Rattle.scenario.specs.Lines.{Word, Asked, opens, places, adds, checks, certifies, shows_gates, ◌then◌, numerals, numerals_until, words_form}
 use Rattle.scenario.specs.Written.{spelled, spaced, numbers_in, ReadsBack}
-use Rattle.scenario.proofs.Steps.{fits}
+use Rattle.scenario.proofs.Numbers.{own, fits, number_of_digits}
 
 -- a byte that neither parts words nor starts a comment
 abbrev plain_byte : ℕ → Bool
 plain_byte b = not (parts b || eqb b 35)
 
 abbrev plain : List ℕ → Bool
-plain [] = true
-plain (b ∷ bs) = plain_byte b && plain bs
+plain = list_all plain_byte
 
 -- a word that can stand on a line
 abbrev proper : Word → Bool
@@ -27,8 +25,7 @@ proper [] = false
 proper (b ∷ bs) = plain (b ∷ bs)
 
 abbrev AllProper : List Word → Type 0
-AllProper [] = Unit {0}
-AllProper (w ∷ ws) = (proper w ≡ true) × AllProper ws
+AllProper = AllByRecursion (λ w. proper w ≡ true)
 
 -- a plain word goes into the word under way, which ends at the blank
 passes : (u w rest : List ℕ) → plain w ≡ true → words_after u (uncommented (w ++ 32 ∷ rest)) ≡ ended (u ++ w) ++ words_of (uncommented rest)
@@ -58,12 +55,8 @@ digits_plain (b ∷ bs) h =
     let both = and_parts (digit b) (digits bs) h in
     ap (λ t. t && plain bs) (digit_plain b both.0) ∙ digits_plain bs both.1
 
-own : IsNumeralModel (λ ds. digits ds ≡ true) value_of
-own = numerals_by_fold _ (search rules) value_after (search rules)
-
 some_number : (w : Word) (n : ℕ) → 0 < length w → digits w ≡ true → value_of w ≡ n → n < 2 ^ 64 → number_of w ≡ Ok n
-some_number [] n some d v lt = absurd (omega arith)
-some_number (b ∷ bs) n some d v lt = cond-true _ _ _ d ∙ ap fitting v ∙ fits n lt
+some_number w n some d v lt = number_of_digits w some d ∙ ap fitting v ∙ fits n lt
 
 -- a number that is printed is read back
 pub number_back : (n : ℕ) → n < 2 ^ 64 → number_of (decimal n) ≡ Ok n
@@ -87,9 +80,6 @@ numerals_back [] h = refl
 numerals_back (n ∷ ns) h =
     ap (λ r. ◌then◌ r (λ m. ◌then◌ (numerals (map decimal ns)) (λ ms. Ok (m ∷ ms)))) (number_back n h.0) ∙ ap (λ r. ◌then◌ r (λ ms. Ok (n ∷ ms))) (numerals_back ns h.1)
 
-same_self : (k : Word) → bytes_eq k k ≡ true
-same_self k = (bytes_eq-Decides k k).1 refl
-
 -- a number is no keyword
 other_word : (n : ℕ) (k : Word) → n < 2 ^ 64 → digits k ≡ false → bytes_eq (decimal n) k ≡ false
 other_word n k lt no_number =
@@ -104,7 +94,7 @@ in_front_until xs q = Ok (xs ++ q.0, q.1)
 
 -- a list of numbers up to a keyword
 until_back : (k : Word) (ns : List ℕ) (ws : List Word) → digits k ≡ false → AllByRecursion (λ n. n < 2 ^ 64) ns → numerals_until k (map decimal ns ++ k ∷ ws) ≡ Ok (ns, ws)
-until_back k [] ws no_number h = cond-true _ _ _ (same_self k)
+until_back k [] ws no_number h = cond-true _ _ _ ((bytes_eq-Decides k k).1 refl)
 until_back k (n ∷ ns) ws no_number h =
     cond-false _ _ _ (other_word n k h.0 no_number) ∙ ap (λ r. ◌then◌ r (λ m. ◌then◌ (numerals_until k (map decimal ns ++ k ∷ ws)) (in_front_until (m ∷ [])))) (number_back n h.0) ∙ ap (λ r. ◌then◌ r (in_front_until (n ∷ []))) (until_back k ns ws no_number h.1)
 
@@ -127,21 +117,18 @@ proper_numbers [] ws h more = more
 proper_numbers (n ∷ ns) ws h more = (number_proper n h.0, proper_numbers ns ws h.1 more)
 
 proper_list : (ns : List ℕ) → AllByRecursion (λ n. n < 2 ^ 64) ns → AllProper (map decimal ns)
-proper_list [] h = tt
-proper_list (n ∷ ns) h = (number_proper n h.0, proper_list ns h.1)
+proper_list ns h = subst AllProper (append-nil (map decimal ns)) (proper_numbers ns [] h tt)
 
 -- and so are all words that are written
 words_proper : (a : Asked) → AllByRecursion (λ n. n < 2 ^ 64) (numbers_in a) → AllProper (spelled a)
-words_proper (opens c e x ds) h =
-    (refl, (refl, (number_proper c h.0, (refl, (number_proper e h.1.0, (refl, (number_proper x h.1.1.0, (refl, proper_list ds h.1.1.1))))))))
-words_proper (places r n l ps) h =
-    (refl, (refl, (number_proper r h.0, (refl, (number_proper n h.1.0, (refl, (number_proper l h.1.1.0, (refl, proper_list ps h.1.1.1))))))))
+words_proper (opens c e x ds) h = search (rules, number_proper, proper_list)
+words_proper (places r n l ps) h = search (rules, number_proper, proper_list)
 words_proper (adds r n l ps os) h =
     let parts = all_parts ps os h.1.1.1 in
-    (refl, (refl, (number_proper r h.0, (refl, (number_proper n h.1.0, (refl, (number_proper l h.1.1.0, (refl, proper_numbers ps (codes "offsets" ∷ map decimal os) parts.0 (refl, proper_list os parts.1)))))))))
-words_proper checks h = (refl, tt)
-words_proper (certifies f) h = (refl, (number_proper f h.0, tt))
-words_proper (shows_gates p) h = (refl, (number_proper p h.0, tt))
+    search (rules, number_proper, proper_list, proper_numbers)
+words_proper checks h = search rules
+words_proper (certifies f) h = search (rules, number_proper)
+words_proper (shows_gates p) h = search (rules, number_proper)
 
 pub reads_back : ReadsBack
 reads_back a h = ap words_form (spaced_words (spelled a) (words_proper a h)) ∙ words_back a h

@@ -1,7 +1,8 @@
 -- What a line asks for: its words read into a call, or the problem that it has.
-use Rattle.std.specs.Prelude.{◌≡◌, ℕ, Bool, true, false, cond, ◌⊎◌, List, [], ◌∷◌, is_ok, Some, None, Ok, Err, vec_items, codes, Option, Result}
+use Rattle.std.specs.Prelude.{◌≡◌, ℕ, Bool, true, false, cond, ◌⊎◌, List, [], ◌∷◌, is_ok, Some, None, Ok, Err, MatchResult, vec_items, codes, Option, Result}
 use Rattle.std.specs.Option.{ok_or, option_map, unwrap_or}
 use Rattle.std.specs.Str.{bytes_eq}
+use Rattle.scenario.specs.declared.call.FlowNumbers.{FlowNumbers}
 use Rattle.scenario.specs.declared.call.Call.{Call}
 use Rattle.scenario.specs.declared.call.Call.TheVariants.{Open, Place, Add, Check, Certificate, Gates}
 use Rattle.scenario.specs.declared.line.Name.{Name}
@@ -26,8 +27,8 @@ pub data Asked : Type 0 where
 -- what a call asks for
 abbrev pub asks : Call → Asked
 asks (Open c e x ds) = opens c e x (vec_items ds)
-asks (Place r n l ps) = places r n l (vec_items ps)
-asks (Add r n l ps os) = adds r n l (vec_items ps) (vec_items os)
+asks (Place f) = places f.release f.octets f.deadline (vec_items f.route)
+asks (Add f os) = adds f.release f.octets f.deadline (vec_items f.route) (vec_items os)
 asks Check = checks
 asks (Certificate f) = certifies f
 asks (Gates p) = shows_gates p
@@ -61,6 +62,11 @@ abbrev pub numerals_until : Word → List Word → Result (List ℕ × List Word
 numerals_until k [] = Err MissingWord
 numerals_until k (w ∷ ws) = cond (bytes_eq w k) (Ok ([], ws)) (number_of w then λ n. numerals_until k ws then λ r. Ok (n ∷ r.0, r.1))
 
+-- numbers up to the word `stop`, or where there is none to the end of the line; the words behind them
+abbrev pub numerals_to : Option Word → List Word → Result (List ℕ × List Word) Problem
+numerals_to None ws = numerals ws then λ ns. Ok (ns, [])
+numerals_to (Some k) ws = numerals_until k ws
+
 -- no word is left
 abbrev pub ends : List Word → Result (Unit {0}) Problem
 ends [] = Ok tt
@@ -75,6 +81,20 @@ open_form ws =
     keyword (codes "delays") x.1 then λ rest.
     numerals rest then λ ds.
     Ok (opens c.0 e.0 x.0 ds)
+
+-- the release, octets, deadline and route of a flow
+abbrev pub numbers_of : FlowNumbers → ℕ × ℕ × ℕ × List ℕ
+numbers_of f = (f.release, f.octets, f.deadline, vec_items f.route)
+
+-- release R octets N deadline L route P .. up to the word `stop`, or to the end of the line; the words behind it
+abbrev pub flow_form : Option Word → List Word → Result ((ℕ × ℕ × ℕ × List ℕ) × List Word) Problem
+flow_form stop ws =
+    field (codes "release") ws then λ r.
+    field (codes "octets") r.1 then λ n.
+    field (codes "deadline") n.1 then λ l.
+    keyword (codes "route") l.1 then λ rest.
+    numerals_to stop rest then λ ps.
+    Ok ((r.0, n.0, l.0, ps.0), ps.1)
 
 -- release R octets N deadline L route P ..
 abbrev pub place_form : List Word → Result Asked Problem
@@ -162,3 +182,7 @@ begins_number (w ∷ ws) = is_ok (number_of w)
 -- the problem p is the one found; or memory was wanting, which only lists take
 abbrev pub Fails : {X : Type 0} → Problem → Result X Problem → Bool → Type 0
 Fails p found lists = (found ≡ Err p) ⊎ ((p ≡ OutOfMemory) × (lists ≡ true))
+
+-- a reading gave what the words say, a value as `view` shows it or a problem; or memory was wanting, which only lists take
+abbrev pub Reads : {X Y : Type 0} → (X → Y) → Result X Problem → Result Y Problem → Bool → Type 0
+Reads view r found lists = MatchResult r (λ x. found ≡ Ok (view x)) (λ p. Fails p found lists)

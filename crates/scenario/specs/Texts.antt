@@ -1,5 +1,6 @@
 -- A line's words, and the number that a word writes. Bytes are numbers, a text is the list of its bytes.
-use Rattle.std.specs.Prelude.{ℕ, ◌+◌, ◌-◌, ◌*◌, ◌^◌, Bool, true, cond, ◌&&◌, ◌||◌, List, [], ◌∷◌, ◌++◌, Ok, Err, Result, ◌==◌, nat_le, nat_lt}
+use Rattle.std.specs.Prelude.{ℕ, ◌+◌, ◌-◌, ◌*◌, ◌^◌, Bool, cond, ◌&&◌, ◌||◌, List, [], ◌∷◌, ◌++◌, Ok, Err, Result, ◌==◌, nat_le, nat_lt}
+use Rattle.std.specs.List.{list_all}
 use Rattle.scenario.specs.declared.words.Words.{Words}
 use Rattle.scenario.specs.declared.call.Problem.{Problem}
 use Rattle.scenario.specs.declared.call.Problem.TheVariants.{NotANumber, NumberTooLarge}
@@ -37,8 +38,7 @@ digit b = nat_le 48 b && nat_le b 57
 
 -- nothing but digits
 abbrev pub digits : List ℕ → Bool
-digits [] = true
-digits (b ∷ bs) = digit b && digits bs
+digits bs = list_all digit bs
 
 -- the number n with more digits written behind it
 abbrev pub value_after : ℕ → List ℕ → ℕ

@@ -4,7 +4,17 @@ ghost use Rattle.scenario.specs.declared.call.Problem.TheVariants.{OutOfMemory};
 ghost use Rattle.scenario.specs.Wording.{wording};
 
 use std::alloc::{AllocError, AllocFailed};
+use std::error::Error;
 use std::fmt;
+
+/// What placing and adding a flow ask for alike: its numbers, and the ports of its route in order.
+#[derive(Drop)]
+pub struct FlowNumbers {
+    pub release: u64,
+    pub octets: u64,
+    pub deadline: u64,
+    pub route: Vec<u64>,
+}
 
 /// A call of a scenario. Times are ticks; ports and flows go by number.
 #[derive(Drop)]
@@ -15,17 +25,9 @@ pub enum Call {
         extension: u64,
         delays: Vec<u64>,
     },
-    Place {
-        release: u64,
-        octets: u64,
-        deadline: u64,
-        route: Vec<u64>,
-    },
+    Place(FlowNumbers),
     Add {
-        release: u64,
-        octets: u64,
-        deadline: u64,
-        route: Vec<u64>,
+        flow: FlowNumbers,
         offsets: Vec<u64>,
     },
     Check,
@@ -38,7 +40,7 @@ pub enum Call {
 }
 
 /// Why a line is no call. Want of memory is no fault of the line.
-#[derive(Clone, Copy, Debug, PartialEq)]
+#[derive(Clone, Copy, Debug, PartialEq, Eq)]
 pub enum Problem {
     UnknownCall,
     MissingWord,
@@ -48,28 +50,22 @@ pub enum Problem {
     OutOfMemory,
 }
 
-impl Problem {
-    fn text(self) -> &'static str
-        ensures { result.now ≡ wording self }
-    {
-        match self {
+impl fmt::Display for Problem {
+    ghost output = { λ p. Some (wording p) };
+
+    fn fmt<W: fmt::Write>(&self, f: &mut fmt::Formatter<W>) -> fmt::Result {
+        f.write_str(match self {
             Problem::UnknownCall => "unknown call",
             Problem::MissingWord => "a word is missing",
             Problem::UnexpectedWord => "a word that does not belong there",
             Problem::NotANumber => "not a number",
             Problem::NumberTooLarge => "a number that does not fit 64 bits",
             Problem::OutOfMemory => "out of memory",
-        }
+        })
     }
 }
 
-impl fmt::Display for Problem {
-    ghost output = { λ p. Some (wording p) };
-
-    fn fmt<W: fmt::Write>(&self, f: &mut fmt::Formatter<W>) -> fmt::Result {
-        f.write_str(self.text())
-    }
-}
+impl Error for Problem {}
 
 impl From<AllocError> for Problem {
     ghost from_gives = { λ _ r. r ≡ OutOfMemory };

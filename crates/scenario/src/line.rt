@@ -1,14 +1,16 @@
 //! A line read into a call.
-ghost use Rattle.std.specs.Prelude.{◌≡◌, true, Ok, Err, MatchResult};
-ghost use Rattle.std.specs.Option.{option_map};
+ghost use Rattle.std.specs.Prelude.{◌≡◌, true, Ok};
+ghost use Rattle.std.specs.Option.{ok_or, option_copied, option_map};
+ghost use Rattle.scenario.specs.declared.call.Problem.TheVariants.{UnknownCall};
 ghost use Rattle.scenario.specs.Texts.{left};
-ghost use Rattle.scenario.specs.Lines.{asks, open_form, place_form, add_form, number_form, name_of, call_form, line_form, has_lists, line_has_lists, Fails};
+ghost use Rattle.scenario.specs.Lines.{asks, numbers_of, flow_form, open_form, place_form, add_form, number_form, name_of, call_form, line_form, has_lists, line_has_lists, Reads};
 ghost use Rattle.scenario.specs.Examples.{Examples};
 ghost use Rattle.scenario.specs.Written.{ReadsBack};
 
-use crate::call::{Call, Problem};
-use crate::words::{Words, is_word};
+use crate::call::{Call, FlowNumbers, Problem};
+use crate::words::Words;
 use std::alloc::Global;
+use std::str::FromStr;
 
 /// The calls by name, without what stands behind it.
 #[derive(Clone, Copy)]
@@ -21,34 +23,33 @@ enum Name {
     Gates,
 }
 
-fn call_name(word: &[u8]) -> Option<Name>
-    ensures { result ≡ name_of word.now }
-{
-    if is_word(word, "open") {
-        Some(Name::Open)
-    } else if is_word(word, "place") {
-        Some(Name::Place)
-    } else if is_word(word, "add") {
-        Some(Name::Add)
-    } else if is_word(word, "check") {
-        Some(Name::Check)
-    } else if is_word(word, "certificate") {
-        Some(Name::Certificate)
-    } else if is_word(word, "gates") {
-        Some(Name::Gates)
-    } else {
-        None
+impl FromStr for Name {
+    type Err = Problem;
+
+    ghost from_str_gives = { λ word r. r ≡ ok_or (name_of word) UnknownCall };
+
+    fn from_str(word: &str) -> Result<Name, Problem> {
+        match word {
+            "open" => Ok(Name::Open),
+            "place" => Ok(Name::Place),
+            "add" => Ok(Name::Add),
+            "check" => Ok(Name::Check),
+            "certificate" => Ok(Name::Certificate),
+            "gates" => Ok(Name::Gates),
+            _ => Err(Problem::UnknownCall),
+        }
     }
 }
 
+// What takes the heap reads a list, and may lack memory: so the heap is no field of the words.
 fn read_open(heap: Global, words: &mut Words) -> Result<Call, Problem>
-    ensures { MatchResult result (λ a. open_form (left words.old) ≡ Ok (asks a)) (λ p. Fails p (open_form (left words.old)) true) }
+    ensures { Reads asks result (open_form (left words.old)) true }
 {
     let cycle = words.number_after("cycle")?;
     let error = words.number_after("error")?;
     let extension = words.number_after("extension")?;
     words.expect("delays")?;
-    let delays = words.numbers(heap)?;
+    let delays = words.numbers(heap, None)?;
     Ok(Call::Open {
         cycle,
         error,
@@ -57,50 +58,48 @@ fn read_open(heap: Global, words: &mut Words) -> Result<Call, Problem>
     })
 }
 
-fn read_place(heap: Global, words: &mut Words) -> Result<Call, Problem>
-    ensures { MatchResult result (λ a. place_form (left words.old) ≡ Ok (asks a)) (λ p. Fails p (place_form (left words.old)) true) }
+// A flow's numbers, with its route up to the word `stop` or to the end of the line.
+fn read_flow(heap: Global, words: &mut Words, stop: Option<&str>) -> Result<FlowNumbers, Problem>
+    ensures { Reads (λ f. (numbers_of f, left words.new)) result (flow_form (option_copied stop.entry) (left words.old)) true }
 {
     let release = words.number_after("release")?;
     let octets = words.number_after("octets")?;
     let deadline = words.number_after("deadline")?;
     words.expect("route")?;
-    let route = words.numbers(heap)?;
-    Ok(Call::Place {
+    let route = words.numbers(heap, stop)?;
+    Ok(FlowNumbers {
         release,
         octets,
         deadline,
         route,
     })
+}
+
+fn read_place(heap: Global, words: &mut Words) -> Result<Call, Problem>
+    ensures { Reads asks result (place_form (left words.old)) true }
+{
+    Ok(Call::Place(read_flow(heap, words, None)?))
 }
 
 fn read_add(heap: Global, words: &mut Words) -> Result<Call, Problem>
-    ensures { MatchResult result (λ a. add_form (left words.old) ≡ Ok (asks a)) (λ p. Fails p (add_form (left words.old)) true) }
+    ensures { Reads asks result (add_form (left words.old)) true }
 {
-    let release = words.number_after("release")?;
-    let octets = words.number_after("octets")?;
-    let deadline = words.number_after("deadline")?;
-    words.expect("route")?;
-    let route = words.numbers_until(heap, "offsets")?;
-    let offsets = words.numbers(heap)?;
-    Ok(Call::Add {
-        release,
-        octets,
-        deadline,
-        route,
-        offsets,
-    })
+    let flow = read_flow(heap, words, Some("offsets"))?;
+    let offsets = words.numbers(heap, None)?;
+    Ok(Call::Add { flow, offsets })
 }
 
 fn read_only_number(words: &mut Words) -> Result<u64, Problem>
-    ensures { MatchResult result (λ n. number_form (left words.old) ≡ Ok n) (λ p. number_form (left words.old) ≡ Err p) }
+    ensures { result ≡ number_form (left words.old) }
 {
     let number = words.number()?;
     words.end()?;
     Ok(number)
 }
 
+// A direct match: each call has fields of its own, and closures in a table would need one shape.
 fn read_call(heap: Global, name: Name, words: &mut Words) -> Result<Call, Problem>
-    ensures { MatchResult result (λ a. call_form name (left words.old) ≡ Ok (asks a)) (λ p. Fails p (call_form name (left words.old)) (has_lists name)) }
+    ensures { Reads asks result (call_form name (left words.old)) (has_lists name) }
 {
     match name {
         Name::Open => read_open(heap, words),
@@ -123,32 +122,26 @@ fn read_call(heap: Global, name: Name, words: &mut Words) -> Result<Call, Proble
 
 /// Reads a line: no call where it has no words.
 pub fn parse_line(heap: Global, line: &str) -> Result<Option<Call>, Problem>
-    ensures { MatchResult result (λ o. line_form line.now ≡ Ok (option_map asks o)) (λ p. Fails p (line_form line.now) (line_has_lists line.now)) }
+    ensures { Reads (option_map asks) result (line_form line.now) (line_has_lists line.now) }
 {
-    let mut words = Words::of(line.as_bytes());
-    let Some(word) = words.next_word() else {
+    let mut words = Words::of(line);
+    let Some(word) = words.next() else {
         return Ok(None);
     };
-    let Some(name) = call_name(word) else {
-        return Err(Problem::UnknownCall);
-    };
+    let name: Name = word.parse()?;
     let call = read_call(heap, name, &mut words)?;
     Ok(Some(call))
 }
 
 /// The examples of `specs/Examples.antt` are read as they say.
-pub fn examples_stand() -> u8
+pub fn examples_stand()
     ensures { Examples }
-{
-    0
-}
+{}
 
 /// A line that is written for a call is read as that call.
-pub fn calls_read_back() -> u8
+pub fn calls_read_back()
     ensures { ReadsBack }
-{
-    0
-}
+{}
 
 #[cfg(test)]
 mod tests {

@@ -6,7 +6,7 @@ ghost use Rattle.calls.specs.Sessions.{fresh, offset_in, OpensSession, PlacesIn,
 use super::Session;
 use crate::reply::{Missing, Reply};
 use gates::list::GateList;
-use scenario::call::Call;
+use scenario::call::{Call, FlowNumbers};
 use schedule::draft::Draft;
 use schedule::draft::add::FlowRequest;
 use schedule::limits::MAX_HOPS;
@@ -23,14 +23,14 @@ fn push_offsets(offsets: &mut Vec<u32>, windows: &[Window])
     }
 }
 
-fn requested(release: u64, octets: u64, deadline: u64, route: &[u64]) -> FlowRequest<'_>
-    ensures { (result.release ≡ release) × (result.octets ≡ octets) × (result.deadline ≡ deadline) × (result.route.now ≡ route.now) }
+fn requested(flow: &FlowNumbers) -> FlowRequest<'_>
+    ensures { (result.release ≡ flow.now.release) × (result.octets ≡ flow.now.octets) × (result.deadline ≡ flow.now.deadline) × (result.route.now ≡ flow.now.route.items) }
 {
     FlowRequest {
-        release,
-        octets,
-        deadline,
-        route,
+        release: flow.release,
+        octets: flow.octets,
+        deadline: flow.deadline,
+        route: flow.route.as_slice(),
     }
 }
 
@@ -170,22 +170,8 @@ impl Session {
                 extension,
                 delays,
             } => self.open(heap, cycle, error, extension, delays.as_slice()),
-            Call::Place {
-                release,
-                octets,
-                deadline,
-                route,
-            } => self.place(heap, requested(release, octets, deadline, route.as_slice())),
-            Call::Add {
-                release,
-                octets,
-                deadline,
-                route,
-                offsets,
-            } => {
-                let request = requested(release, octets, deadline, route.as_slice());
-                Ok(self.add(request, offsets.as_slice()))
-            }
+            Call::Place(flow) => self.place(heap, requested(&flow)),
+            Call::Add { flow, offsets } => Ok(self.add(requested(&flow), offsets.as_slice())),
             Call::Check => Ok(self.check()),
             Call::Certificate { flow } => Ok(self.certificate(flow)),
             Call::Gates { port } => self.gates(heap, port),
