@@ -6,6 +6,7 @@ ghost use Rattle.gates.specs.declared.list.make.TheConstants.{MAX_ENTRIES};
 use crate::entry::GateEntry;
 
 pub mod make;
+pub mod print;
 pub mod stretch;
 pub mod walk;
 
