@@ -1,25 +1,13 @@
 -- The gate lists of a port yield what the plans say.
-use Rattle.std.proofs.Common.{◌≡◌, ℕ, suc, ◌-◌, ◌%◌, ◌<◌, cond, leb, List, [], ◌∷◌, length, get_or, Some, None, vec_items, Option, sym, ap, ◌∙◌, mod-lt, arith}
+use Rattle.std.proofs.Common.{◌≡◌, ℕ, ◌-◌, ◌%◌, ◌<◌, cond, leb, List, Some, None, vec_items, Option, sym, ap, ◌∙◌, mod-lt, arith}
 use Rattle.schedule.specs.Plan.{Plan}
 use Rattle.gates.specs.declared.entry.GateEntry.{GateEntry}
 use Rattle.gates.specs.declared.timetable.Rotation.{Rotation}
 use Rattle.gates.specs.declared.timetable.Timetable.{Timetable}
-use Rattle.gates.specs.Lists.{no_entry, total, yields, Lasting, IsGateList}
+use Rattle.gates.specs.Lists.{yields, IsGateList}
 use Rattle.gates.specs.Timetable.{cyclic_octet, joint_octet}
-use Rattle.gates.specs.Lookup.{last_octet, list_octet, held_from, lists_octet, octets_with, octets, ListsFollowPlans}
-use Rattle.gates.proofs.Entries.{yields_head, yields_tail}
-
--- the octet of the last entry is what the entries yield at their last tick
-last_yields : (es : List GateEntry) → Lasting es → 0 < total es → yields es (total es - 1) ≡ last_octet es
-last_yields [] lasts some = absurd (omega arith)
-last_yields (e ∷ []) lasts some = yields_head e [] (total (e ∷ []) - 1) (omega arith)
-last_yields (e ∷ d ∷ ds) lasts some =
-    let long = lasts 1 (omega arith) in
-    let x : total (e ∷ d ∷ ds) - 1 - e.ticks ≡ total (d ∷ ds) - 1 = omega arith in
-    let a : length (e ∷ d ∷ ds) - 1 ≡ suc (length (d ∷ ds) - 1) = omega arith in
-    yields_tail e (d ∷ ds) (total (e ∷ d ∷ ds) - 1) (omega arith) ∙ ap (yields (d ∷ ds)) x
-    ∙ last_yields (d ∷ ds) (λ i h. lasts (suc i) (omega arith)) (omega arith)
-    ∙ sym (ap (λ n. (get_or (e ∷ d ∷ ds) n no_entry).octet) a)
+use Rattle.gates.specs.Lookup.{list_octet, held_from, lists_octet, octets_with, octets, ListsFollowPlans}
+use Rattle.gates.proofs.Entries.{ends_with}
 
 follows_one : (P : Plan) (p : ℕ) (es : List GateEntry) (B l : ℕ) → 0 < P.cycle → IsGateList P p es → list_octet es P.cycle B l ≡ cyclic_octet P B p l
 unfolding list_octet cyclic_octet
@@ -30,7 +18,7 @@ follows_two : (P Q : Plan) (p : ℕ) (es fs : List GateEntry) (B T l : ℕ) → 
 unfolding lists_octet joint_octet
 follows_two P Q p es fs B T l sp sq ep fq =
     let w = ep.whole in
-    let held = sym (last_yields es ep.lasting (omega arith)) ∙ ap (λ n. yields es (n - 1)) w ∙ ep.yielding (P.cycle - 1) (omega arith) in
+    let held = sym (ends_with es ep.lasting) ∙ ap (λ n. yields es (n - 1)) w ∙ ep.yielding (P.cycle - 1) (omega arith) in
     let first = follows_one P p es B l sp ep in
     let next = follows_one Q p fs T l sq fq in
     λ i. cond (leb T l) (next i) (cond (leb (held_from P.cycle B T) l) (held i) (first i))

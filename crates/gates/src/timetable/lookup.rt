@@ -8,6 +8,7 @@ use crate::span::Span;
 
 impl Rotation {
     // What holds at a local tick with a next list.
+    #[tactic(auto, using(crate::proofs::Changes::span_after, crate::proofs::Changes::span_held, crate::proofs::Changes::span_first))]
     fn span_across(&self, next: &Rotation, l: u64) -> Span
         ensures { result ≡ span_with self.now (Some next.now) l }
     {

@@ -1,4 +1,4 @@
-use Rattle.std.proofs.Common.{◌≡◌, ◌-◌, ◌<◌, min, true, vec_items, sym, ap, ◌∙◌, arith}
+use Rattle.std.proofs.Common.{rules, ◌≡◌, ◌-◌, ◌<◌, min, true, vec_items, sym, ap, ◌∙◌, arith}
 use Rattle.gates.specs.declared.entry.GateEntry.{GateEntry}
 use Rattle.gates.specs.Octets.{opens}
 use Rattle.gates.specs.Lookup.{last_octet, held_from, list_octet}
@@ -11,11 +11,7 @@ turns : (c : goal.After-min-turning) → c.min-turning.result ≡ min (held_from
 turns c = c.min-turning.ensures ∙ ap (λ n. min n c.args.most) (c.saturating_sub.ensures ∙ ap (λ n. n - c.args.l) c.hold_from-hold.ensures)
 
 pub returns-then-l-next : goal.returns-then-l-next
-returns-then-l-next c =
-    let a = c.args.self.now in
-    let n = c.args.next.now in
-    after_counts (vec_items a.list.entries) a.list.cycle a.base (vec_items n.list.entries) n.list.cycle n.base c.args.l c.args.class c.args.most
-    c.open_ticks.result c.if-l-next.true c.open_ticks.ensures
+returns-then-l-next c = search (rules, after_counts)
 
 pub returns-then-open-turning : goal.returns-then-open-turning
 returns-then-open-turning c =
