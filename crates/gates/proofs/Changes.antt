@@ -2,13 +2,12 @@
 use Rattle.std.proofs.Common.{◌≡◌, ℕ, ◌+◌, ◌-◌, ◌<◌, ◌≤◌, min, Bool, true, false, cond, leb, List, Some, None, vec_items, Option, sym, refl, ap, ◌∙◌, subst, inl, inr, arith}
 use Rattle.std.proofs.lemmas.Bool.{cases_lt, le-leb, lt-leb}
 use Rattle.gates.specs.declared.entry.GateEntry.{GateEntry}
-use Rattle.gates.specs.declared.list.GateList.{GateList}
 use Rattle.gates.specs.declared.span.Span.{Span}
-use Rattle.gates.specs.declared.timetable.NextList.{NextList}
+use Rattle.gates.specs.declared.timetable.Rotation.{Rotation}
 use Rattle.gates.specs.declared.timetable.Timetable.{Timetable}
 use Rattle.gates.specs.Octets.{opens}
 use Rattle.gates.specs.Lists.{total}
-use Rattle.gates.specs.Lookup.{last_octet, list_octet, held_from, lists_octet, octets_with, octets, list_span, cut_to, lists_span, span_with, span_at, Stays, Counts, settled_with, next_from, SettlingKeeps}
+use Rattle.gates.specs.Lookup.{last_octet, list_octet, held_from, lists_octet, octets_with, octets, list_span, cut_to, lists_span, span_with, Stays, Counts, settled_with, next_from, SettlingKeeps}
 use Rattle.gates.proofs.Leads.{Lead, counted, leading, lead_longer, lead_join, lead_alike}
 use Rattle.gates.proofs.Rounds.{stays_from, list_stays}
 
@@ -101,21 +100,22 @@ module _ (es : List GateEntry) (C B : ℕ) (fs : List GateEntry) (D T : ℕ) whe
       (lead_alike (λ i. opens (list_octet fs D T (l + i)) c) (λ i. opens (lists_octet es C B fs D T (l + i)) c) m r
       (λ i g. sym (ap (λ o. opens o c) (octet_after (l + i) (omega arith)))) (leading (list_octet fs D T) l c m r h))
 
-with_stays : (a : GateList) (B : ℕ) (o : Option NextList) (l : ℕ) → Stays (octets_with a B o) l (span_with a B o l)
-with_stays a B None l = list_stays (vec_items a.entries) a.cycle a.whole a.positive B l
-with_stays a B (Some n) l =
-    lists_stays (vec_items a.entries) a.cycle B (vec_items n.list.entries) n.list.cycle n.from a.whole a.positive n.list.whole n.list.positive l
+with_stays : (a : Rotation) (o : Option Rotation) (l : ℕ) → Stays (octets_with a o) l (span_with a o l)
+with_stays a None l = list_stays (vec_items a.list.entries) a.list.cycle a.list.whole a.list.positive a.base l
+with_stays a (Some n) l =
+    lists_stays (vec_items a.list.entries) a.list.cycle a.base (vec_items n.list.entries) n.list.cycle n.base a.list.whole a.list.positive n.list.whole n.list.positive l
 
 -- what holds at a tick stays for the ticks of its span
-pub timetable_stays : (t : Timetable) (l : ℕ) → Stays (octets t) l (span_at t l)
-unfolding octets span_at
-timetable_stays t l = with_stays t.list t.base t.next l
-
-settled_alike : (t : Timetable) (o : Option NextList) (l : ℕ) → t.next ≡ o → next_from o ≤ l → octets (settled_with t o) l ≡ octets_with t.list t.base o l
+pub timetable_stays : (t : Timetable) (o : Option Rotation) (l : ℕ) (s : Span) → t.next ≡ o → s ≡ span_with t.current o l → Stays (octets t) l s
 unfolding octets
-settled_alike t None l is le = ap (λ (o : Option NextList). octets_with t.list t.base o l) is
+timetable_stays t o l s next is =
+    subst (λ (p : Option Rotation). Stays (octets_with t.current p) l s) (sym next) (subst (Stays (octets_with t.current o) l) (sym is) (with_stays t.current o l))
+
+settled_alike : (t : Timetable) (o : Option Rotation) (l : ℕ) → t.next ≡ o → next_from o ≤ l → octets (settled_with t o) l ≡ octets_with t.current o l
+unfolding octets
+settled_alike t None l is le = ap (λ (o : Option Rotation). octets_with t.current o l) is
 settled_alike t (Some n) l is le =
-    sym (octet_after (vec_items t.list.entries) t.list.cycle t.base (vec_items n.list.entries) n.list.cycle n.from l le)
+    sym (octet_after (vec_items t.current.list.entries) t.current.list.cycle t.current.base (vec_items n.list.entries) n.list.cycle n.base l le)
 
 pub settling_keeps : SettlingKeeps
 unfolding octets

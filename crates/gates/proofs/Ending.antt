@@ -1,14 +1,13 @@
 -- At the last tick of the cycle of a good plan every port is open to the ordinary classes, and so its gate list ends.
-use Rattle.std.proofs.Common.{◌≡◌, ℕ, zero, suc, ◌+◌, ◌-◌, ◌*◌, ◌<◌, ◌≤◌, Bool, false, ◌&&◌, eqb, ltb, leb, List, [], ◌∷◌, length, get_or, sym, refl, ap, ◌∙◌, inl, inr, arith}
+use Rattle.std.proofs.Common.{◌≡◌, ℕ, zero, suc, ◌+◌, ◌-◌, ◌*◌, ◌<◌, ◌≤◌, Bool, false, ◌&&◌, eqb, ltb, leb, sym, refl, ap, ◌∙◌, inl, inr, arith}
 use Rattle.std.proofs.lemmas.Bool.{cases_lt, le-ltb, and_left, and_right, or_from}
 use Rattle.schedule.specs.Plan.{Plan, flow_count, hop_count, port_at, offset_at, end_at}
 use Rattle.schedule.specs.Rules.{Good}
 use Rattle.schedule.specs.Checks.{checked_plan}
 use Rattle.schedule.proofs.Props.{good_from}
-use Rattle.gates.specs.declared.entry.GateEntry.{GateEntry}
 use Rattle.gates.specs.Octets.{some, inside, ahead, in_window, in_guard, octet_by, octet_at}
-use Rattle.gates.specs.Lists.{no_entry, total, yields, Lasting, EndsOrdinary}
-use Rattle.gates.proofs.Entries.{yields_head, yields_tail}
+use Rattle.gates.specs.Lists.{yields, EndsOrdinary}
+use Rattle.gates.proofs.Entries.{ends_with}
 
 none : (n : ℕ) (q : ℕ → Bool) → ((i : ℕ) → i < n → q i ≡ false) → some n q ≡ false
 none zero q held = refl
@@ -41,17 +40,6 @@ module _ (P : Plan) (good : Good P) where
   pub last_ordinary : (p : ℕ) → octet_at P p (P.cycle - 1) ≡ 0x7F
   unfolding octet_at
   last_ordinary p = λ i. octet_by (no_window p i) (no_guard p i)
-
--- the last tick of a list is in its last entry
-ends_with : (es : List GateEntry) → Lasting es → yields es (total es - 1) ≡ (get_or es (length es - 1) no_entry).octet
-ends_with [] held = refl
-ends_with (e ∷ []) held = let pos = held 0 (omega arith) in yields_head e [] (total (e ∷ []) - 1) (omega arith)
-ends_with (e ∷ d ∷ es) held =
-    let pos = held 1 (omega arith) in
-    let n : length (e ∷ d ∷ es) - 1 ≡ suc (length (d ∷ es) - 1) = omega arith in
-    let x : total (e ∷ d ∷ es) - 1 - e.ticks ≡ total (d ∷ es) - 1 = omega arith in
-    yields_tail e (d ∷ es) (total (e ∷ d ∷ es) - 1) (omega arith) ∙ ap (yields (d ∷ es)) x ∙ ends_with (d ∷ es) (λ i lt. held (suc i) (omega arith))
-    ∙ ap (λ m. (get_or (e ∷ d ∷ es) m no_entry).octet) (sym n)
 
 pub ends_ordinary : EndsOrdinary
 ends_ordinary c p es list =

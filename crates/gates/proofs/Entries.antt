@@ -1,5 +1,5 @@
 -- Lists of entries with one more behind.
-use Rattle.std.proofs.Common.{◌≡◌, ℕ, ◌+◌, ◌-◌, ◌<◌, ◌≤◌, cond, ltb, List, [], ◌∷◌, ◌++◌, length, get_or, sym, ap, ◌∙◌, subst, inl, inr, arith}
+use Rattle.std.proofs.Common.{◌≡◌, ℕ, suc, ◌+◌, ◌-◌, ◌<◌, ◌≤◌, cond, ltb, List, [], ◌∷◌, ◌++◌, length, get_or, sym, refl, ap, ◌∙◌, subst, inl, inr, arith}
 use Rattle.std.proofs.lemmas.List.{length_push, get_or_append_left, get_or_push}
 use Rattle.std.proofs.lemmas.Bool.{cases_lt, lt-ltb, le-ltb}
 use Rattle.gates.specs.declared.entry.GateEntry.{GateEntry}
@@ -48,3 +48,14 @@ changing_push es e held other i lt same = elim (cases_lt (i + 1) (length es)) [
 
 pub ends_push : (es : List GateEntry) (e : GateEntry) (o : ℕ) → (e.octet ≡ o → ⊥) → EndsOther (es ++ e ∷ []) o
 ends_push es e o other i n same = other (sym (ap (λ (x : GateEntry). x.octet) (get_or_push es e no_entry i (omega (arith, length_push es e)))) ∙ same)
+
+-- the last tick of a list is in its last entry
+pub ends_with : (es : List GateEntry) → Lasting es → yields es (total es - 1) ≡ (get_or es (length es - 1) no_entry).octet
+ends_with [] held = refl
+ends_with (e ∷ []) held = let pos = held 0 (omega arith) in yields_head e [] (total (e ∷ []) - 1) (omega arith)
+ends_with (e ∷ d ∷ es) held =
+    let pos = held 1 (omega arith) in
+    let n : length (e ∷ d ∷ es) - 1 ≡ suc (length (d ∷ es) - 1) = omega arith in
+    let x : total (e ∷ d ∷ es) - 1 - e.ticks ≡ total (d ∷ es) - 1 = omega arith in
+    yields_tail e (d ∷ es) (total (e ∷ d ∷ es) - 1) (omega arith) ∙ ap (yields (d ∷ es)) x ∙ ends_with (d ∷ es) (λ i lt. held (suc i) (omega arith))
+    ∙ ap (λ m. (get_or (e ∷ d ∷ es) m no_entry).octet) (sym n)

@@ -5,4 +5,5 @@ pub mod Timetable
 pub mod Scan
 pub mod Makes
 pub mod Lookup
+pub mod Texts
 pub mod Figures

@@ -4,7 +4,7 @@ use Rattle.schedule.specs.Plan.{Plan}
 use Rattle.gates.specs.declared.entry.GateEntry.{GateEntry}
 use Rattle.gates.specs.declared.list.GateList.{GateList}
 use Rattle.gates.specs.declared.span.Span.{Span}
-use Rattle.gates.specs.declared.timetable.NextList.{NextList}
+use Rattle.gates.specs.declared.timetable.Rotation.{Rotation}
 use Rattle.gates.specs.declared.timetable.Timetable.{Timetable}
 use Rattle.gates.specs.Octets.{opens}
 use Rattle.gates.specs.Lists.{no_entry, yields, IsGateList}
@@ -26,14 +26,18 @@ held_from C B T = T - (T - B) % C
 unfoldable pub lists_octet : List GateEntry → ℕ → ℕ → List GateEntry → ℕ → ℕ → ℕ → ℕ
 lists_octet es C B fs D T l = cond (nat_le T l) (list_octet fs D T l) (cond (nat_le (held_from C B T) l) (last_octet es) (list_octet es C B l))
 
--- the octet at tick l of a list with its base, and of the next list if there is one
-abbrev pub octets_with : GateList → ℕ → Option NextList → ℕ → ℕ
-octets_with a B None = list_octet (vec_items a.entries) a.cycle B
-octets_with a B (Some n) = lists_octet (vec_items a.entries) a.cycle B (vec_items n.list.entries) n.list.cycle n.from
+-- the octet at tick l of a gate list that goes round from its base on
+abbrev pub rotation_octet : Rotation → ℕ → ℕ
+rotation_octet a = list_octet (vec_items a.list.entries) a.list.cycle a.base
+
+-- likewise with the next one, if there is one
+abbrev pub octets_with : Rotation → Option Rotation → ℕ → ℕ
+octets_with a None = rotation_octet a
+octets_with a (Some n) = lists_octet (vec_items a.list.entries) a.list.cycle a.base (vec_items n.list.entries) n.list.cycle n.base
 
 -- the octet of a timetable at tick l
 unfoldable pub octets : Timetable → ℕ → ℕ
-octets t = octets_with t.list t.base t.next
+octets t = octets_with t.current t.next
 
 -- the octet of entries that go round for ever, at tick x from the begin of the first
 abbrev pub round_octet : List GateEntry → ℕ → ℕ → ℕ
@@ -57,14 +61,18 @@ unfoldable pub lists_span : List GateEntry → ℕ → ℕ → List GateEntry �
 lists_span es C B fs D T l =
     cond (nat_le T l) (list_span fs D T l) (cond (nat_le (held_from C B T) l) (record { octet = last_octet es; ticks = T - l }) (cut_to (held_from C B T - l) (list_span es C B l)))
 
--- the span at tick l of a list with its base, and of the next list if there is one
-abbrev pub span_with : GateList → ℕ → Option NextList → ℕ → Span
-span_with a B None = list_span (vec_items a.entries) a.cycle B
-span_with a B (Some n) = lists_span (vec_items a.entries) a.cycle B (vec_items n.list.entries) n.list.cycle n.from
+-- the span at tick l of a gate list that goes round from its base on
+abbrev pub rotation_span : Rotation → ℕ → Span
+rotation_span a = list_span (vec_items a.list.entries) a.list.cycle a.base
+
+-- likewise with the next one, if there is one
+abbrev pub span_with : Rotation → Option Rotation → ℕ → Span
+span_with a None = rotation_span a
+span_with a (Some n) = lists_span (vec_items a.list.entries) a.list.cycle a.base (vec_items n.list.entries) n.list.cycle n.base
 
 -- the span of a timetable at tick l
 unfoldable pub span_at : Timetable → ℕ → Span
-span_at t = span_with t.list t.base t.next
+span_at t = span_with t.current t.next
 
 -- the octet stays as it is at tick l, for the ticks of the span
 pub record Stays (os : ℕ → ℕ) (l : ℕ) (s : Span) : Type 0 where
@@ -93,39 +101,39 @@ pub record Counts (os : ℕ → ℕ) (l c n r : ℕ) : Type 0 where
 
 -- a timetable with another list from tick T on
 abbrev pub followed_by : Timetable → GateList → ℕ → Timetable
-followed_by t a T = record { list = t.list; base = t.base; next = Some (record { list = a; from = T }) }
+followed_by t a T = record { current = t.current; next = Some (record { list = a; base = T }) }
 
 -- a timetable in which that next list, if there is one, has taken the place of the first
-abbrev pub settled_with : Timetable → Option NextList → Timetable
+abbrev pub settled_with : Timetable → Option Rotation → Timetable
 settled_with t None = t
-settled_with t (Some n) = record { list = n.list; base = n.from; next = None }
+settled_with t (Some n) = record { current = n; next = None }
 
 -- a timetable whose own next list has
 abbrev pub settled : Timetable → Timetable
 settled t = settled_with t t.next
 
 -- the list whose place the next one takes
-abbrev pub released_with : GateList → Option NextList → Option GateList
+abbrev pub released_with : GateList → Option Rotation → Option GateList
 released_with a None = None
 released_with a (Some n) = Some a
 
 -- likewise of a timetable
 abbrev pub released : Timetable → Option GateList
-released t = released_with t.list t.next
+released t = released_with t.current.list t.next
 
 -- gate lists of a port yield what the plans say, for one plan and while the plan changes
 pub record ListsFollowPlans : Type 0 where
   pub one : (P : Plan) (p : ℕ) (es : List GateEntry) (B l : ℕ) → 0 < P.cycle → IsGateList P p es → list_octet es P.cycle B l ≡ cyclic_octet P B p l
   pub two : (P Q : Plan) (p : ℕ) (es fs : List GateEntry) (B T l : ℕ) → 0 < P.cycle → 0 < Q.cycle → IsGateList P p es → IsGateList Q p fs
       → lists_octet es P.cycle B fs Q.cycle T l ≡ joint_octet P B Q T p l
-  pub steady : (t : Timetable) (P : Plan) (p l : ℕ) → t.list.cycle ≡ P.cycle → IsGateList P p (vec_items t.list.entries) → t.next ≡ None → octets t l ≡ cyclic_octet P t.base p l
-  pub changing : (t : Timetable) (n : NextList) (P Q : Plan) (p l : ℕ) → t.list.cycle ≡ P.cycle → IsGateList P p (vec_items t.list.entries)
-      → t.next ≡ Some n → n.list.cycle ≡ Q.cycle → IsGateList Q p (vec_items n.list.entries) → octets t l ≡ joint_octet P t.base Q n.from p l
+  pub steady : (t : Timetable) (P : Plan) (p l : ℕ) → t.current.list.cycle ≡ P.cycle → IsGateList P p (vec_items t.current.list.entries) → t.next ≡ None → octets t l ≡ cyclic_octet P t.current.base p l
+  pub changing : (t : Timetable) (n : Rotation) (P Q : Plan) (p l : ℕ) → t.current.list.cycle ≡ P.cycle → IsGateList P p (vec_items t.current.list.entries)
+      → t.next ≡ Some n → n.list.cycle ≡ Q.cycle → IsGateList Q p (vec_items n.list.entries) → octets t l ≡ joint_octet P t.current.base Q n.base p l
 
 -- the tick from which the next list is followed, 0 if there is none
-abbrev pub next_from : Option NextList → ℕ
+abbrev pub next_from : Option Rotation → ℕ
 next_from None = 0
-next_from (Some n) = n.from
+next_from (Some n) = n.base
 
 -- once the next list has begun, taking it in the place of the first alters no octet
 abbrev pub SettlingKeeps : Type 0

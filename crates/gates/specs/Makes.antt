@@ -17,5 +17,5 @@ Lists P p l = (l.cycle ≡ P.cycle) × IsGateList P p (vec_items l.entries)
 
 -- the reply is the gate list of the port, or the number by which it is refused; it lacks memory only where nothing else refuses it
 abbrev pub Makes : Plan → ℕ → Result GateList GateRefusal → Type 0
-Makes P p (Ok l) = (gates_refused P p ≡ None) × (l.cycle ≡ P.cycle) × IsGateList P p (vec_items l.entries)
+Makes P p (Ok l) = (gates_refused P p ≡ None) × Lists P p l
 Makes P p (Err e) = gate_number e ≡ gates_refused P p

@@ -1,10 +1,12 @@
 // Gate control lists.
 ghost use Rattle.std.specs.Prelude.{◌≡◌, ◌<◌, ◌≤◌, vec_capacity};
 ghost use Rattle.gates.specs.Lists.{total, Lasting};
+ghost use Rattle.gates.specs.declared.list.make.TheConstants.{MAX_ENTRIES};
 
 use crate::entry::GateEntry;
 
 pub mod make;
+pub mod print;
 pub mod stretch;
 pub mod walk;
 
@@ -17,5 +19,5 @@ pub struct GateList {
     ghost lasting: { Lasting entries.items },
     ghost whole: { total entries.items ≡ cycle },
     ghost positive: { 0 < cycle },
-    ghost roomy: { 49 ≤ vec_capacity entries },
+    ghost roomy: { MAX_ENTRIES ≤ vec_capacity entries },
 }

@@ -4,6 +4,7 @@ ghost use Rattle.gates.specs.Lists.{OneGateList, EndsOrdinary};
 ghost use Rattle.gates.specs.Lookup.{ListsFollowPlans, SettlingKeeps};
 
 /// The worked example, computed from the definitions.
+#[tactic(auto, using(crate::proofs::Example::figures))]
 pub fn figures_stand()
     ensures { Figures }
 {}
@@ -14,11 +15,13 @@ pub fn gate_list_is_one()
 {}
 
 /// The gate lists of a port yield what the plans say, for one plan and while the plan changes.
+#[tactic(auto, using(crate::proofs::Follows::lists_follow_plans))]
 pub fn lists_follow_plans()
     ensures { ListsFollowPlans }
 {}
 
 /// Once the next list of a timetable has begun, settling alters none of its octets.
+#[tactic(auto, using(crate::proofs::Changes::settling_keeps))]
 pub fn settling_keeps()
     ensures { SettlingKeeps }
 {}

@@ -3,18 +3,18 @@ use crate::list::GateList;
 
 pub mod change;
 pub mod lookup;
+pub mod round;
 
-/// A gate list that is to be followed from a tick on.
+/// A gate list that goes round from its base on. Before the base every gate is closed.
 #[derive(Drop)]
-pub struct NextList {
-    list: GateList,
-    from: u64,
-}
-
-/// The gate list of a port with its base, and the next list if there is one.
-#[derive(Drop)]
-pub struct Timetable {
+pub struct Rotation {
     list: GateList,
     base: u64,
-    next: Option<NextList>,
+}
+
+/// What a port follows, and what takes its place from the next base on, if anything does.
+#[derive(Drop)]
+pub struct Timetable {
+    current: Rotation,
+    next: Option<Rotation>,
 }

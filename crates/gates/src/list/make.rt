@@ -1,7 +1,6 @@
 // Making the gate list of a port.
-ghost use Rattle.std.specs.Prelude.{◌≡◌, ◌≤◌, [], IfOk, vec_capacity};
+ghost use Rattle.std.specs.Prelude.{◌≡◌, ◌≤◌, [], vec_capacity};
 ghost use Rattle.schedule.specs.Checks.{checked_plan};
-ghost use Rattle.gates.specs.Lists.{IsGateList};
 ghost use Rattle.gates.specs.Makes.{Lists, Makes};
 
 use super::GateList;
@@ -9,7 +8,7 @@ use super::stretch::stretch_from;
 use crate::entry::GateEntry;
 use crate::refusal::GateRefusal;
 use schedule::checked::CheckedPlan;
-use std::alloc::{AllocError, Global};
+use std::alloc::Global;
 
 /// The most entries of a gate list: three for each of 16 windows, and one behind.
 pub const MAX_ENTRIES: usize = 49;
@@ -17,10 +16,10 @@ pub const MAX_ENTRIES: usize = 49;
 impl GateList {
     // Fills an empty table. It goes from change to change, so its cost does not grow with the cycle.
     fn fill(mut entries: Vec<GateEntry>, plan: &CheckedPlan, port: usize) -> GateList
-        requires { (entries.items ≡ []) × (49 ≤ vec_capacity entries) }
+        requires { (entries.items ≡ []) × (MAX_ENTRIES ≤ vec_capacity entries) }
         ensures { Lists (checked_plan plan.now) port result }
     {
-        let cycle = plan.cycle() as u64;
+        let cycle = u64::from(plan.cycle());
         let mut begun = 0;
         let mut stretch = stretch_from(plan, port, 0);
         while stretch.until < cycle {
@@ -45,13 +44,6 @@ impl GateList {
         }
     }
 
-    fn make(heap: Global, plan: &CheckedPlan, port: usize) -> Result<GateList, AllocError>
-        ensures { IfOk result (λ l. (l.cycle ≡ (checked_plan plan.now).cycle) × IsGateList (checked_plan plan.now) port l.entries.items) }
-    {
-        let entries = Vec::with_capacity(heap, MAX_ENTRIES)?;
-        Ok(GateList::fill(entries, plan, port))
-    }
-
     /// The gate list of a port of a checked plan, in the memory of this one. A port that is not there has no window.
     pub fn remade(self, plan: &CheckedPlan, port: usize) -> GateList
         ensures { Lists (checked_plan plan.now) port result }
@@ -60,7 +52,7 @@ impl GateList {
             cycle: _,
             mut entries,
         } = self;
-        entries.truncate(0);
+        entries.clear();
         GateList::fill(entries, plan, port)
     }
 
@@ -71,8 +63,8 @@ impl GateList {
         if port >= plan.ports().len() {
             return Err(GateRefusal::AbsentPort);
         }
-        let list = GateList::make(heap, plan, port)?;
-        Ok(list)
+        let entries = Vec::with_capacity(heap, MAX_ENTRIES)?;
+        Ok(GateList::fill(entries, plan, port))
     }
 
     pub fn cycle(&self) -> u32

@@ -1,12 +1,11 @@
 // The octet of a port at a tick, and how long it stays.
-ghost use Rattle.std.specs.Prelude.{◌≡◌, ◌<◌};
-ghost use Rattle.schedule.specs.Plan.{HasHop, flow_count, hop_count};
+ghost use Rattle.std.specs.Prelude.{◌≡◌, ◌+◌, ◌-◌, ◌*◌};
 ghost use Rattle.schedule.specs.Checks.{checked_plan};
-ghost use Rattle.gates.specs.Scan.{nearer as nearer_edge, octet_with, stretch_with, stretch_at, stretch_hops, stretch_after};
+ghost use Rattle.gates.specs.Scan.{nearer as nearer_edge, octet_with, until_with, stretch_with, stretch_after};
 
 use schedule::checked::CheckedPlan;
 use schedule::limits::FRAME_OVERHEAD;
-use schedule::tables::Flow;
+use schedule::tables::Window;
 
 /// Class 7 alone is open.
 pub const SCHEDULED: u8 = 1 << 7;
@@ -14,10 +13,18 @@ pub const SCHEDULED: u8 = 1 << 7;
 pub const ORDINARY: u8 = SCHEDULED - 1;
 
 /// The octet at a tick, and a later tick before which it does not change.
-#[derive(Clone, Copy)]
+#[derive(Clone, Copy, Debug, PartialEq)]
 pub struct Stretch {
     pub octet: u8,
     pub until: u64,
+}
+
+// The three edges of a window: the begin of its guard band, its begin and its end.
+#[derive(Clone, Copy)]
+struct Edges {
+    guard: u64,
+    begin: u64,
+    end: u64,
 }
 
 fn nearer(tick: u64, edge: u64, next: u64) -> u64
@@ -30,81 +37,74 @@ fn nearer(tick: u64, edge: u64, next: u64) -> u64
     }
 }
 
-// A window shuts the ordinary classes from its guard band on, and opens class 7 from its begin on.
-fn octet_at(tick: u64, guard: u64, begin: u64, end: u64, octet: u8) -> u8
-    ensures { result ≡ octet_with tick guard begin end octet }
-{
-    if tick < guard {
-        return octet;
+impl Edges {
+    // The window of a frame of so many octets; the guard band is twice the clock error long.
+    fn of(window: Window, octets: u32, error: u32) -> Edges
+        ensures guard { result.guard ≡ window.offset - 2 * error }
+        ensures begin { result.begin ≡ window.offset }
+        ensures end { result.end ≡ window.offset + (octets + 20) + 2 * error }
+    {
+        let error = u64::from(error);
+        let begin = u64::from(window.offset);
+        Edges {
+            guard: begin.saturating_sub(2 * error),
+            begin,
+            end: begin + (u64::from(octets) + FRAME_OVERHEAD) + 2 * error,
+        }
     }
-    if tick >= end {
-        return octet;
+
+    // The window shuts the ordinary classes from its guard band on, and opens class 7 from its begin on.
+    fn octet(self, tick: u64, octet: u8) -> u8
+        ensures { result ≡ octet_with tick self.guard self.begin self.end octet }
+    {
+        if tick < self.guard || tick >= self.end {
+            return octet;
+        }
+        if tick < self.begin {
+            return octet & SCHEDULED;
+        }
+        (octet & SCHEDULED) | SCHEDULED
     }
-    if tick < begin {
-        return octet & SCHEDULED;
+
+    // The nearest edge after the tick, of these and the one known before.
+    fn next(self, tick: u64, known: u64) -> u64
+        ensures { result ≡ until_with tick self.guard self.begin self.end known }
+    {
+        let before = nearer(tick, self.guard, known);
+        let within = nearer(tick, self.begin, before);
+        nearer(tick, self.end, within)
     }
-    (octet & SCHEDULED) | SCHEDULED
 }
 
 impl Stretch {
     // One window more.
-    fn with_window(self, tick: u64, guard: u64, begin: u64, end: u64) -> Stretch
-        ensures { result ≡ stretch_with tick guard begin end self }
+    fn with(self, edges: Edges, tick: u64) -> Stretch
+        ensures { result ≡ stretch_with tick edges.guard edges.begin edges.end self }
     {
-        let before = nearer(tick, guard, self.until);
-        let within = nearer(tick, begin, before);
         Stretch {
-            octet: octet_at(tick, guard, begin, end, self.octet),
-            until: nearer(tick, end, within),
+            octet: edges.octet(tick, self.octet),
+            until: edges.next(tick, self.until),
         }
     }
 }
 
-// The window of one hop, which counts if it is at the port.
-fn with_hop(
-    plan: &CheckedPlan,
-    port: usize,
-    tick: u64,
-    flow: usize,
-    hop: usize,
-    stretch: Stretch,
-) -> Stretch
-    requires { HasHop (checked_plan plan.now) flow hop }
-    ensures { result ≡ stretch_at (checked_plan plan.now) port tick flow hop stretch }
-{
-    let Flow { octets, first, .. } = plan.flows()[flow];
-    let window = plan.windows()[first + hop];
-    if window.port != port {
-        return stretch;
-    }
-    let error = plan.error() as u64;
-    let begin = window.offset as u64;
-    let end = begin + (octets as u64 + FRAME_OVERHEAD) + 2 * error;
-    stretch.with_window(tick, begin.saturating_sub(2 * error), begin, end)
-}
-
-// The windows of one flow.
-fn with_flow(plan: &CheckedPlan, port: usize, tick: u64, flow: usize, start: Stretch) -> Stretch
-    requires { flow < flow_count (checked_plan plan.now) }
-    ensures { result ≡ stretch_hops (checked_plan plan.now) port tick flow start (hop_count (checked_plan plan.now) flow) }
-{
-    let mut stretch = start;
-    for hop in 0..plan.flows()[flow].hops {
-        stretch = with_hop(plan, port, tick, flow, hop, stretch);
-    }
-    stretch
-}
-
+#[tactic(auto, unfolding(crate::specs::Scan::stretch_after))]
 /// The stretch of a port from a tick on.
 pub(crate) fn stretch_from(plan: &CheckedPlan, port: usize, tick: u64) -> Stretch
     ensures { result ≡ stretch_after (checked_plan plan.now) port tick }
 {
     let mut stretch = Stretch {
         octet: ORDINARY,
-        until: plan.cycle() as u64,
+        until: u64::from(plan.cycle()),
     };
-    for flow in 0..plan.flows().len() {
-        stretch = with_flow(plan, port, tick, flow, stretch);
+    for (number, flow) in plan.flows().iter().enumerate() {
+        for window in plan.hops(number) {
+            if window.port != port {
+                continue;
+            }
+            let edges = Edges::of(*window, flow.octets, plan.error());
+            stretch = stretch.with(edges, tick);
+        }
     }
     stretch
 }

@@ -2,18 +2,17 @@
 ghost use Rattle.std.specs.Prelude.{◌≡◌, None};
 ghost use Rattle.gates.specs.Lookup.{followed_by, settled, released};
 
-use super::{NextList, Timetable};
+use super::{Rotation, Timetable};
 use crate::list::GateList;
 use std::mem::replace;
 
 impl Timetable {
     /// One list that goes round from its base on.
     pub fn new(list: GateList, base: u64) -> Timetable
-        ensures { (result.list ≡ list) × (result.base ≡ base) × (result.next ≡ None) }
+        ensures { (result.current.list ≡ list) × (result.current.base ≡ base) × (result.next ≡ None) }
     {
         Timetable {
-            list,
-            base,
+            current: Rotation { list, base },
             next: None,
         }
     }
@@ -22,7 +21,7 @@ impl Timetable {
     pub fn follow(&mut self, list: GateList, from: u64)
         ensures { self.new ≡ followed_by self.old list from }
     {
-        self.next = Some(NextList { list, from });
+        self.next = Some(Rotation { list, base: from });
     }
 
     /// The next list, if there is one, takes the place of the first, with the tick of its begin as the base. The first is given back, for its memory.
@@ -30,8 +29,7 @@ impl Timetable {
         ensures { (self.new ≡ settled self.old) × (result ≡ released self.old) }
     {
         let next = self.next.take()?;
-        let NextList { list, from } = next;
-        self.base = from;
-        Some(replace(&mut self.list, list))
+        let Rotation { list, base: _ } = replace(&mut self.current, next);
+        Some(list)
     }
 }

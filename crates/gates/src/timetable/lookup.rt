@@ -1,87 +1,67 @@
 // The octet at a local tick, and for how long a gate stays open.
 ghost use Rattle.std.specs.Prelude.{◌≡◌};
 ghost use Rattle.gates.specs.Timetable.{open_for};
-ghost use Rattle.gates.specs.Lookup.{octets, lists_octet, held_from, span_at, lists_span, open_ticks, Stays, Counts};
+ghost use Rattle.gates.specs.Lookup.{octets, octets_with, span_at, span_with, open_ticks, Stays, Counts};
 
-use super::{NextList, Timetable};
-use crate::list::GateList;
+use super::{Rotation, Timetable};
 use crate::span::Span;
 
-// The tick from which the last octet of a list is held until a tick.
-fn hold_from(list: &GateList, base: u64, from: u64) -> u64
-    ensures { result ≡ held_from list.now.cycle base from }
-{
-    from - from.saturating_sub(base) % list.cycle() as u64
-}
+impl Rotation {
+    // What holds at a local tick with a next list.
+    #[tactic(auto, using(crate::proofs::Changes::span_after, crate::proofs::Changes::span_held, crate::proofs::Changes::span_first))]
+    fn span_across(&self, next: &Rotation, l: u64) -> Span
+        ensures { result ≡ span_with self.now (Some next.now) l }
+    {
+        if l >= next.base {
+            return next.span(l);
+        }
+        let hold = self.hold_from(next.base);
+        if l >= hold {
+            return Span {
+                octet: self.list.last().octet,
+                ticks: next.base - l,
+            };
+        }
+        let span = self.span(l);
+        Span {
+            octet: span.octet,
+            ticks: span.ticks.min(hold - l),
+        }
+    }
 
-// What holds at a local tick with a next list.
-fn span_across(list: &GateList, base: u64, next: &NextList, l: u64) -> Span
-    ensures { result ≡ lists_span list.now.entries.items list.now.cycle base next.now.list.entries.items next.now.list.cycle next.now.from l }
-{
-    if l >= next.from {
-        return next.list.span(next.from, l);
+    // The open ticks from a local tick on with a next list: those of the first list, of the hold, and of the next list.
+    fn open_across(&self, next: &Rotation, l: u64, class: u8, most: u64) -> u64
+        ensures { Counts (octets_with self.now (Some next.now)) l class most result }
+    {
+        if l >= next.base {
+            return next.open_ticks(l, class, most);
+        }
+        let hold = self.hold_from(next.base);
+        let turning = hold.saturating_sub(l).min(most);
+        let open = self.open_ticks(l, class, turning);
+        if open < turning {
+            return open;
+        }
+        let held = (next.base - (l + turning)).min(most - turning);
+        if held > 0 && !self.list.last().is_open(class) {
+            return turning;
+        }
+        let rest = most - turning - held;
+        turning + held + next.open_ticks(next.base, class, rest)
     }
-    let hold = hold_from(list, base, next.from);
-    if l >= hold {
-        return Span {
-            octet: list.last().octet,
-            ticks: next.from - l,
-        };
-    }
-    let span = list.span(base, l);
-    Span {
-        octet: span.octet,
-        ticks: span.ticks.min(hold - l),
-    }
-}
-
-// The open ticks from a local tick on with a next list: those of the first list, of the hold, and of the next list.
-fn open_across(list: &GateList, base: u64, next: &NextList, l: u64, class: u8, most: u64) -> u64
-    ensures { Counts (lists_octet list.now.entries.items list.now.cycle base next.now.list.entries.items next.now.list.cycle next.now.from) l class most result }
-{
-    if l >= next.from {
-        return next.list.open_ticks(next.from, l, class, most);
-    }
-    let hold = hold_from(list, base, next.from);
-    let turning = hold.saturating_sub(l).min(most);
-    let open = list.open_ticks(base, l, class, turning);
-    if open < turning {
-        return open;
-    }
-    let held = (next.from - (l + turning)).min(most - turning);
-    if held > 0 && !list.last().is_open(class) {
-        return turning;
-    }
-    let rest = most - turning - held;
-    turning + held + next.list.open_ticks(next.from, next.from, class, rest)
 }
 
 impl Timetable {
-    fn find(&self, l: u64) -> Span
-        ensures is { result ≡ span_at self.now l }
-        ensures stays { Stays (octets self.now) l result }
-    {
-        match &self.next {
-            Some(next) => span_across(&self.list, self.base, next, l),
-            None => self.list.span(self.base, l),
-        }
-    }
-
-    fn count(&self, l: u64, class: u8, most: u64) -> u64
-        ensures { Counts (octets self.now) l class most result }
-    {
-        match &self.next {
-            Some(next) => open_across(&self.list, self.base, next, l, class, most),
-            None => self.list.open_ticks(self.base, l, class, most),
-        }
-    }
-
+    #[tactic(auto, unfolding(crate::specs::Lookup::span_at))]
     /// The octet at a local tick, and the ticks from there to where another entry, the hold or the next list begins.
     pub fn span(&self, l: u64) -> Span
         ensures is { result ≡ span_at self.now l }
         ensures stays { Stays (octets self.now) l result }
     {
-        self.find(l)
+        match &self.next {
+            Some(next) => self.current.span_across(next, l),
+            None => self.current.span(l),
+        }
     }
 
     /// The octet at a local tick.
@@ -91,17 +71,21 @@ impl Timetable {
         self.span(l).octet
     }
 
+    #[tactic(auto, unfolding(crate::specs::Lookup::octets))]
     /// For how many ticks from a local tick on the gate of a class stays open, at most as many as asked.
     pub fn open_ticks(&self, l: u64, class: u8, most: u64) -> u64
-        ensures { result ≡ open_ticks (octets self.now) l class most }
+        ensures { Counts (octets self.now) l class most result }
     {
-        self.count(l, class, most)
+        match &self.next {
+            Some(next) => self.current.open_across(next, l, class, most),
+            None => self.current.open_ticks(l, class, most),
+        }
     }
 
     /// Whether the gate of a class is open at each of w local ticks; above 7 there is no gate.
     pub fn open_for(&self, l: u64, class: u8, w: u64) -> bool
         ensures { result ≡ open_for (octets self.now) l class w }
     {
-        self.count(l, class, w) == w
+        self.open_ticks(l, class, w) == w
     }
 }

@@ -1,6 +1,6 @@
 // What a checked plan answers.
-ghost use Rattle.std.specs.Prelude.{◌≡◌, ◌<◌, ◌≤◌, MatchOption};
-ghost use Rattle.schedule.specs.Plan.{flow_count};
+ghost use Rattle.std.specs.Prelude.{◌≡◌, ◌<◌, ◌≤◌, length, MatchOption};
+ghost use Rattle.schedule.specs.Plan.{flow_count, hop_count, windows_of};
 ghost use Rattle.schedule.specs.Checks.{checked_plan, Transits, Certifies, Reaches};
 
 use super::CheckedPlan;
@@ -44,6 +44,15 @@ impl CheckedPlan {
         ensures { result.now ≡ (checked_plan self.now).windows }
     {
         self.draft.windows.as_slice()
+    }
+
+    /// The windows of a flow, hop by hop; none for a flow that the plan does not have.
+    pub fn hops(&self, flow: usize) -> &[Window]
+        ensures is { result.now ≡ windows_of (checked_plan self.now) flow }
+        ensures whole { length result.now ≡ hop_count (checked_plan self.now) flow }
+        ensures few { length result.now ≤ 6 }
+    {
+        self.draft.hops(flow)
     }
 
     // The least and the greatest transit of a flow, if there is such a flow.

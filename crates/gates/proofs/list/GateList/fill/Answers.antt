@@ -15,7 +15,7 @@ loop-stretch-init c = (running_start c.args.plan.now c.args.port (vec_items c.ar
 further : (c : goal.After-stretch_from-stretch-in-loop-stretch) → c.loop-stretch.stretch.until < c.stretch_from-stretch-in-loop-stretch.result.until
 further c =
     let e = ap (λ (s : Stretch). s.until) c.stretch_from-stretch-in-loop-stretch.ensures in
-    let gt = until_gt (checked_plan c.args.plan.now) c.args.port c.loop-stretch.stretch.until (omega (arith, c.cycle-cycle.ensures)) in
+    let gt = until_gt (checked_plan c.args.plan.now) c.args.port c.loop-stretch.stretch.until (omega arith) in
     omega arith
 
 pub loop-stretch-smaller-then-stretch-octet : goal.loop-stretch-smaller-then-stretch-octet
@@ -24,7 +24,7 @@ loop-stretch-smaller-then-stretch-octet c = let h = further (goal.at.loop-stretc
 pub loop-stretch-preserved-then-stretch-octet : goal.loop-stretch-preserved-then-stretch-octet
 loop-stretch-preserved-then-stretch-octet c = (
   running_on c.args.plan.now c.args.port (vec_items c.loop-stretch.entries) c.loop-stretch.begun c.loop-stretch.stretch c.loop-stretch.invariant.0
-      (omega (arith, c.cycle-cycle.ensures)) c.stretch_from-stretch-in-loop-stretch.result c.stretch_from-stretch-in-loop-stretch.ensures c.if-stretch-octet.true,
+      (omega arith) c.stretch_from-stretch-in-loop-stretch.result c.stretch_from-stretch-in-loop-stretch.ensures c.if-stretch-octet.true,
   c.loop-stretch.invariant.1,
 )
 
@@ -34,9 +34,9 @@ loop-stretch-smaller c = let h = further (goal.at.loop-stretch-smaller c).After-
 pub loop-stretch-preserved : goal.loop-stretch-preserved
 loop-stretch-preserved c = (
   running_push c.args.plan.now c.args.port (vec_items c.loop-stretch.entries) c.loop-stretch.begun c.loop-stretch.stretch c.loop-stretch.invariant.0
-      (omega (arith, c.cycle-cycle.ensures)) c.stretch_from-stretch-in-loop-stretch.result c.stretch_from-stretch-in-loop-stretch.ensures c.if-stretch-octet.false
+      (omega arith) c.stretch_from-stretch-in-loop-stretch.result c.stretch_from-stretch-in-loop-stretch.ensures c.if-stretch-octet.false
       (vec_items c.push_reserved.new.self) c.push_reserved.ensures.items,
-  omega (arith, c.push_reserved.ensures.capacity),
+  omega arith,
 )
 
 whole_list : (c : goal.After-push_reserved-2) → IsGateList (checked_plan c.args.plan.now) c.args.port (vec_items c.push_reserved-2.new.self)
@@ -44,17 +44,17 @@ whole_list c =
     let es = vec_items c.loop-stretch.entries in
     let entry : ℕ → GateEntry = λ n. record { octet = c.loop-stretch.stretch.octet; ticks = n - c.loop-stretch.begun } in
     finished c.args.plan.now c.args.port es c.loop-stretch.begun c.loop-stretch.stretch c.loop-stretch.invariant.0
-    (omega (arith, c.cycle-cycle.ensures)) (vec_items c.push_reserved-2.new.self) (c.push_reserved-2.ensures.items ∙ ap (λ n. es ++ entry n ∷ []) c.cycle-cycle.ensures)
+    (omega arith) (vec_items c.push_reserved-2.new.self) (c.push_reserved-2.ensures.items ∙ ap (λ n. es ++ entry n ∷ []) (c.from-cycle.ensures ∙ c.cycle.ensures))
 
 pub invariant_of-result : goal.invariant_of-result
 invariant_of-result c =
     let made = whole_list (goal.at.invariant_of-result c).After-push_reserved-2 in
     record {
       lasting = made.lasting;
-      whole = made.whole ∙ sym c.cycle.ensures;
-      positive = omega (arith, c.cycle.ensures, c.args.plan.now.draft.timing.0);
-      roomy = omega (arith, c.loop-stretch.invariant.1, c.push_reserved-2.ensures.capacity);
+      whole = made.whole ∙ sym c.cycle-2.ensures;
+      positive = omega (arith, c.args.plan.now.draft.timing.0);
+      roomy = omega arith;
     }
 
 pub returns : goal.returns
-returns c = (c.cycle.ensures, whole_list (goal.at.returns c).After-push_reserved-2)
+returns c = (c.cycle-2.ensures, whole_list (goal.at.returns c).After-push_reserved-2)
