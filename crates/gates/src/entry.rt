@@ -6,7 +6,7 @@ ghost use Rattle.gates.specs.Texts.{entry_text};
 use std::fmt;
 
 /// A gate octet and the ticks for which it lasts. Bit c is 1 where the gate of class c is open.
-#[derive(Clone, Copy, Debug, PartialEq)]
+#[derive(Clone, Copy, Debug, PartialEq, Eq)]
 pub struct GateEntry {
     pub octet: u8,
     pub ticks: u32,

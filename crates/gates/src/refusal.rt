@@ -6,7 +6,7 @@ ghost use Rattle.gates.specs.declared.refusal.GateRefusal.TheVariants.{OutOfMemo
 use std::alloc::AllocError;
 
 /// Why a gate list was not made.
-#[derive(Clone, Copy, Debug, PartialEq)]
+#[derive(Clone, Copy, Debug, PartialEq, Eq)]
 pub enum GateRefusal {
     AbsentPort,
     OutOfMemory,

@@ -4,16 +4,18 @@ ghost use Rattle.scenario.specs.Lines.{asks};
 ghost use Rattle.calls.specs.Sessions.{fresh, offset_in, OpensSession, PlacesIn, AddsTo, ChecksOf, certificate_reply, GatesOf, Performs};
 
 use super::Session;
-use crate::reply::{Missing, Reply};
+use crate::refusal::{Missing, Refusal};
+use crate::reply::Reply;
 use gates::list::GateList;
 use scenario::call::{Call, FlowNumbers};
 use schedule::draft::Draft;
 use schedule::draft::add::FlowRequest;
+use schedule::draft::open::Timing;
 use schedule::limits::MAX_HOPS;
 use schedule::tables::Window;
-use std::alloc::{AllocError, Global};
+use std::alloc::Global;
 
-// Writes the offset of each window.
+// Writes the offset of each window, into memory that is there: `extend` could lack some, when the flow is already placed.
 fn push_offsets(offsets: &mut Vec<u32>, windows: &[Window])
     requires { vec_len offsets.old + length windows.now ≤ vec_capacity offsets.old }
     ensures { offsets.new.items ≡ offsets.old.items ++ map offset_in windows.now }
@@ -46,121 +48,78 @@ impl Session {
     }
 
     // A new draft takes the place of the one before.
-    fn open(
-        &mut self,
-        heap: Global,
-        cycle: u64,
-        error: u64,
-        extension: u64,
-        delays: &[u64],
-    ) -> Result<Reply, AllocError>
-        ensures { OpensSession self.old cycle error extension delays.now result self.new }
+    fn open(&mut self, heap: Global, timing: Timing, delays: &[u64]) -> Result<Reply, Refusal>
+        ensures { OpensSession self.old timing.cycle timing.error timing.extension delays.now result self.new }
     {
-        match Draft::open(heap, cycle, error, extension, delays) {
-            Ok(draft) => {
-                self.draft = Some(draft);
-                Ok(Reply::Opened)
-            }
-            Err(refusal) => match refusal.number() {
-                Some(number) => Ok(Reply::Refused { number }),
-                None => Err(AllocError),
-            },
-        }
+        let draft = Draft::open(heap, timing, delays)?;
+        self.draft = Some(draft);
+        Ok(Reply::Opened)
     }
 
     // Memory for the reply is had before the flow is placed.
-    fn place(&mut self, heap: Global, request: FlowRequest<'_>) -> Result<Reply, AllocError>
+    fn place(&mut self, heap: Global, request: FlowRequest<'_>) -> Result<Reply, Refusal>
         ensures { PlacesIn self.old.draft self.old request.entry.release request.entry.octets request.entry.deadline request.entry.route.now result self.new }
     {
         let Some(draft) = &mut self.draft else {
-            return Ok(Reply::OutOfOrder {
-                missing: Missing::Draft,
-            });
+            return Err(Refusal::OutOfOrder(Missing::Draft));
         };
         let mut offsets = Vec::with_capacity(heap, MAX_HOPS)?;
-        match draft.place(request) {
-            Ok(flow) => {
-                push_offsets(&mut offsets, draft.hops(flow));
-                Ok(Reply::Placed { flow, offsets })
-            }
-            Err(refusal) => Ok(Reply::Refused {
-                number: refusal.number(),
-            }),
-        }
+        let flow = draft.place(request)?;
+        push_offsets(&mut offsets, draft.hops(flow));
+        Ok(Reply::Placed { flow, offsets })
     }
 
-    fn add(&mut self, request: FlowRequest<'_>, offsets: &[u64]) -> Reply
+    fn add(&mut self, request: FlowRequest<'_>, offsets: &[u64]) -> Result<Reply, Refusal>
         ensures { AddsTo self.old.draft self.old request.entry.release request.entry.octets request.entry.deadline request.entry.route.now offsets.now result self.new }
     {
         let Some(draft) = &mut self.draft else {
-            return Reply::OutOfOrder {
-                missing: Missing::Draft,
-            };
+            return Err(Refusal::OutOfOrder(Missing::Draft));
         };
-        match draft.add(request, offsets) {
-            Ok(flow) => Reply::Added { flow },
-            Err(refusal) => Reply::Refused {
-                number: refusal.number(),
-            },
-        }
+        let flow = draft.add(request, offsets)?;
+        Ok(Reply::Added { flow })
     }
 
     // The draft becomes the checked plan, or stays a draft.
-    fn check(&mut self) -> Reply
+    fn check(&mut self) -> Result<Reply, Refusal>
         ensures { ChecksOf self.old.draft self.old result self.new }
     {
         let Some(draft) = self.draft.take() else {
-            return Reply::OutOfOrder {
-                missing: Missing::Draft,
-            };
+            return Err(Refusal::OutOfOrder(Missing::Draft));
         };
         match draft.check() {
             Ok(plan) => {
                 self.plan = Some(plan);
-                Reply::Checked
+                Ok(Reply::Checked)
             }
             Err((fault, draft)) => {
                 self.draft = Some(draft);
-                Reply::Faulty { fault }
+                Err(Refusal::Faulty(fault))
             }
         }
     }
 
-    fn certificate(&self, flow: u64) -> Reply
+    fn certificate(&self, flow: u64) -> Result<Reply, Refusal>
         ensures { result ≡ certificate_reply self.now.plan flow }
     {
         let Some(plan) = &self.plan else {
-            return Reply::OutOfOrder {
-                missing: Missing::CheckedPlan,
-            };
+            return Err(Refusal::OutOfOrder(Missing::CheckedPlan));
         };
-        match plan.certificate(flow as usize) {
-            Ok((least, greatest)) => Reply::Certificate { least, greatest },
-            Err(refusal) => Reply::Refused {
-                number: refusal.number(),
-            },
-        }
+        let (least, greatest) = plan.certificate(flow as usize)?;
+        Ok(Reply::Certificate { least, greatest })
     }
 
-    fn gates(&self, heap: Global, port: u64) -> Result<Reply, AllocError>
+    fn gates(&self, heap: Global, port: u64) -> Result<Reply, Refusal>
         ensures { GatesOf self.now.plan port result }
     {
         let Some(plan) = &self.plan else {
-            return Ok(Reply::OutOfOrder {
-                missing: Missing::CheckedPlan,
-            });
+            return Err(Refusal::OutOfOrder(Missing::CheckedPlan));
         };
-        match GateList::of_port(heap, plan, port as usize) {
-            Ok(list) => Ok(Reply::Gates { list }),
-            Err(refusal) => match refusal.number() {
-                Some(number) => Ok(Reply::Refused { number }),
-                None => Err(AllocError),
-            },
-        }
+        let list = GateList::of_port(heap, plan, port as usize)?;
+        Ok(Reply::Gates { list })
     }
 
     /// Does one call. Want of memory leaves everything as it was.
-    pub fn perform(&mut self, heap: Global, call: Call) -> Result<Reply, AllocError>
+    pub fn perform(&mut self, heap: Global, call: Call) -> Result<Reply, Refusal>
         ensures { Performs self.old (asks call) result self.new }
     {
         match call {
@@ -169,11 +128,18 @@ impl Session {
                 error,
                 extension,
                 delays,
-            } => self.open(heap, cycle, error, extension, delays.as_slice()),
+            } => {
+                let timing = Timing {
+                    cycle,
+                    error,
+                    extension,
+                };
+                self.open(heap, timing, delays.as_slice())
+            }
             Call::Place(flow) => self.place(heap, requested(&flow)),
-            Call::Add { flow, offsets } => Ok(self.add(requested(&flow), offsets.as_slice())),
-            Call::Check => Ok(self.check()),
-            Call::Certificate { flow } => Ok(self.certificate(flow)),
+            Call::Add { flow, offsets } => self.add(requested(&flow), offsets.as_slice()),
+            Call::Check => self.check(),
+            Call::Certificate { flow } => self.certificate(flow),
             Call::Gates { port } => self.gates(heap, port),
         }
     }
