@@ -10,7 +10,7 @@ use std::io::{BufRead, BufReader};
 use std::process::ExitCode;
 use stop::Stop;
 
-fn answer(rt: &HostRuntime, session: &mut Session, line: u64, text: &str) -> Result<(), Stop> {
+fn answer(rt: &HostRuntime, session: &mut Session, line: usize, text: &str) -> Result<(), Stop> {
     match parse_line(rt.alloc(), text) {
         Ok(None) => Ok(()),
         Ok(Some(call)) => {
@@ -25,10 +25,9 @@ fn answer(rt: &HostRuntime, session: &mut Session, line: u64, text: &str) -> Res
 
 fn answer_all(rt: &HostRuntime) -> Result<(), Stop> {
     let mut session = Session::new();
-    let mut number: u64 = 0;
-    for line in BufReader::new(rt.alloc(), rt.stdin())?.lines(rt.alloc()) {
-        number = number.saturating_add(1);
-        answer(rt, &mut session, number, line?.as_str())?;
+    let lines = BufReader::new(rt.alloc(), rt.stdin())?.lines(rt.alloc());
+    for (before, line) in lines.enumerate() {
+        answer(rt, &mut session, before.saturating_add(1), line?.as_str())?;
     }
     Ok(())
 }

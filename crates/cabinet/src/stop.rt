@@ -1,12 +1,13 @@
 // Why a scenario ends before its last line.
 use scenario::call::Problem;
 use std::alloc::AllocError;
+use std::error::Error;
 use std::{fmt, io};
 
 /// What went wrong, and at which line where the line is at fault.
-#[derive(Drop)]
+#[derive(Debug, Drop)]
 pub enum Stop {
-    NoCall { line: u64, problem: Problem },
+    NoCall { line: usize, problem: Problem },
     OutOfMemory,
     Stream(io::Error),
 }
@@ -32,3 +33,5 @@ impl fmt::Display for Stop {
         }
     }
 }
+
+impl Error for Stop {}
