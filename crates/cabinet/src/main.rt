@@ -3,21 +3,28 @@
 
 mod stop;
 
+use calls::refusal::Refusal;
 use calls::session::Session;
-use scenario::call::Problem;
+use scenario::call::{Call, Problem};
 use scenario::line::parse_line;
 use std::io::{BufRead, BufReader};
 use std::process::ExitCode;
 use stop::Stop;
 
+// A refusal is a reply like any other; only want of memory ends the scenario.
+fn answer_call(rt: &HostRuntime, session: &mut Session, call: Call) -> Result<(), Stop> {
+    match session.perform(rt.alloc(), call) {
+        Ok(reply) => rt.println(&reply)?,
+        Err(Refusal::OutOfMemory) => return Err(Stop::OutOfMemory),
+        Err(refusal) => rt.println(refusal)?,
+    }
+    Ok(())
+}
+
 fn answer(rt: &HostRuntime, session: &mut Session, line: usize, text: &str) -> Result<(), Stop> {
     match parse_line(rt.alloc(), text) {
         Ok(None) => Ok(()),
-        Ok(Some(call)) => {
-            let reply = session.perform(rt.alloc(), call)?;
-            rt.println(&reply)?;
-            Ok(())
-        }
+        Ok(Some(call)) => answer_call(rt, session, call),
         Err(Problem::OutOfMemory) => Err(Stop::OutOfMemory),
         Err(problem) => Err(Stop::NoCall { line, problem }),
     }

@@ -1,6 +1,5 @@
 // Why a scenario ends before its last line.
 use scenario::call::Problem;
-use std::alloc::AllocError;
 use std::error::Error;
 use std::{fmt, io};
 
@@ -15,12 +14,6 @@ pub enum Stop {
 impl From<io::Error> for Stop {
     fn from(e: io::Error) -> Stop {
         Stop::Stream(e)
-    }
-}
-
-impl From<AllocError> for Stop {
-    fn from(_e: AllocError) -> Stop {
-        Stop::OutOfMemory
     }
 }
 

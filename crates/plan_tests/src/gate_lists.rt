@@ -1,24 +1,18 @@
 // Gate lists: touching windows, a port with no window, the worked example.
+use crate::requests::{flow, timing};
 use gates::entry::GateEntry;
 use gates::list::GateList;
 use schedule::checked::CheckedPlan;
 use schedule::draft::Draft;
-use schedule::draft::add::FlowRequest;
 use std::alloc::Global;
 use std::process::Abort;
 use std::test::Fail;
 
 // Flows of 100 octets over port 0 of two, at these releases and offsets.
 fn planned(heap: Global, error: u64, flows: &[(u64, u64)]) -> Result<CheckedPlan, Fail> {
-    let mut draft = Draft::open(heap, 1_000, error, 0, &[0, 0])?;
+    let mut draft = Draft::open(heap, timing(1_000, error, 0), &[0, 0])?;
     for (release, offset) in flows {
-        let request = FlowRequest {
-            release: *release,
-            octets: 100,
-            deadline: 1_000,
-            route: &[0],
-        };
-        draft.add(request, &[*offset])?;
+        draft.add(flow(*release, 100, 1_000, &[0]), &[*offset])?;
     }
     match draft.check() {
         Ok(plan) => Ok(plan),

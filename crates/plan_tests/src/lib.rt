@@ -9,3 +9,5 @@ mod gate_lists;
 mod limits;
 #[cfg(test)]
 mod placing;
+#[cfg(test)]
+mod requests;
