@@ -1,6 +1,7 @@
 -- The octet read off the windows one by one is the octet that they give.
 use Rattle.std.proofs.Common.{◌≡◌, ℕ, zero, suc, ◌+◌, ◌-◌, ◌*◌, ◌≤◌, Bool, true, false, cond, ◌&&◌, ◌||◌, eqb, ltb, leb, sym, refl, ap, ◌∙◌, inl, inr, arith}
 use lib.Bits.{bit_and, bit_or}
+use Rattle.std.proofs.Math.Bool.{or_assoc}
 use Rattle.std.proofs.lemmas.Bool.{cases_lt, cases_Bool, lt-ltb, le-ltb, le-leb, lt-leb}
 use Rattle.schedule.specs.Plan.{Plan, flow_count, hop_count, port_at, offset_at, end_at}
 use Rattle.gates.specs.declared.list.stretch.Stretch.{Stretch}
@@ -54,10 +55,6 @@ octet_step t d o e w g oe = elim (cases_lt t (o - d)) [
   ]
 ]
 
-or_assoc : (a b c : Bool) → (a || (b || c)) ≡ ((a || b) || c)
-or_assoc true b c = refl
-or_assoc false b c = refl
-
 module _ (P : Plan) (p t : ℕ) where
   hop_octet : (f h : ℕ) (s : Stretch) (w g : Bool) → s.octet ≡ octet_by w g → (stretch_at P p t f h s).octet ≡ octet_by (inside P p t f h || w) (ahead P p t f h || g)
   hop_octet f h s w g e = elim (cases_Bool (eqb (port_at P f h) p)) [
@@ -75,7 +72,7 @@ module _ (P : Plan) (p t : ℕ) where
   hops_octet f s w g e zero = e
   hops_octet f s w g e (suc n) =
       hop_octet f n (stretch_hops P p t f s n) (some n (inside P p t f) || w) (some n (ahead P p t f) || g) (hops_octet f s w g e n)
-      ∙ (λ i. octet_by (or_assoc (inside P p t f n) (some n (inside P p t f)) w i) (or_assoc (ahead P p t f n) (some n (ahead P p t f)) g i))
+      ∙ sym (λ i. octet_by (or_assoc (inside P p t f n) (some n (inside P p t f)) w i) (or_assoc (ahead P p t f n) (some n (ahead P p t f)) g i))
 
   flows_octet : (n : ℕ) → (stretch_flows P p t (open_stretch P) n).octet
       ≡ octet_by (some n (λ f. some (hop_count P f) (inside P p t f))) (some n (λ f. some (hop_count P f) (ahead P p t f)))

@@ -42,7 +42,7 @@ impl Edges {
     fn of(window: Window, octets: u32, error: u32) -> Edges
         ensures guard { result.guard ≡ window.offset - 2 * error }
         ensures begin { result.begin ≡ window.offset }
-        ensures end { result.end ≡ window.offset + (octets + 20) + 2 * error }
+        ensures end { result.end ≡ window.offset + (octets + FRAME_OVERHEAD) + 2 * error }
     {
         let error = u64::from(error);
         let begin = u64::from(window.offset);
