@@ -30,6 +30,7 @@ impl Rotation {
     }
 
     // The open ticks from a local tick on with a next list: those of the first list, of the hold, and of the next list.
+    // Tick, class and bound stay three parameters: each part asks from another tick and for fewer, so a struct would be made anew at each.
     fn open_across(&self, next: &Rotation, l: u64, class: u8, most: u64) -> u64
         ensures { Counts (octets_with self.now (Some next.now)) l class most result }
     {

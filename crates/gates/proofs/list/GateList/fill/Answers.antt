@@ -1,9 +1,7 @@
-use Rattle.std.proofs.Common.{ℕ, ◌-◌, ◌<◌, [], ◌∷◌, ◌++◌, vec_items, sym, ap, ◌∙◌, arith}
+use Rattle.std.proofs.Common.{ℕ, ◌-◌, [], ◌∷◌, ◌++◌, vec_items, sym, ap, ◌∙◌, arith}
 use Rattle.schedule.specs.Checks.{checked_plan}
-use Rattle.gates.specs.declared.list.stretch.Stretch.{Stretch}
 use Rattle.gates.specs.declared.entry.GateEntry.{GateEntry}
 use Rattle.gates.specs.Lists.{IsGateList}
-use Rattle.gates.proofs.Edges.{until_gt}
 use Rattle.gates.proofs.Running.{running_start, running_on, running_push, finished}
 use Rattle.gates.proofs.list.GateList.fill.Goals.{After-stretch_from-stretch-in-loop-stretch, After-push_reserved-2}
 use Rattle.gates.proofs.list.GateList.fill.Goals as goal
