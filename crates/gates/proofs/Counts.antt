@@ -1,5 +1,6 @@
 -- A port has at most 48 edges, and each stretch but the last ends at one.
 use Rattle.std.proofs.Common.{◌≡◌, ℕ, zero, suc, ◌+◌, ◌-◌, ◌*◌, ◌<◌, ◌≤◌, cond, eqb, ltb, sym, refl, ap, ◌∙◌, subst, inl, inr, mul-suc, arith}
+use Rattle.std.proofs.lemmas.Bool.Decides.{nat_tests}
 use Rattle.std.proofs.lemmas.Bool.{cases_lt, cases_eq, cases_Bool, lt-ltb, le-ltb, eq-eqb, eqb-true, ne_eqb, cond_both, cond-true, cond-false}
 use Rattle.schedule.specs.Plan.{Plan, flow_count, hop_count, port_at, offset_at, end_at}
 use Rattle.schedule.specs.declared.checked.CheckedPlan.{CheckedPlan}
@@ -41,21 +42,15 @@ coming t e = cond (ltb t e) 1 0
 
 coming_most : (t e : ℕ) → coming t e ≤ 1
 unfolding coming
-coming_most t e = cond_both (ltb t e) 1 0 (λ x. x ≤ 1) (λ q. omega arith) (λ q. omega arith)
+coming_most t e = grind (arith, nat_tests)
 
 coming_le : (t u e : ℕ) → t ≤ u → coming u e ≤ coming t e
 unfolding coming
-coming_le t u e le = elim (cases_lt t e) [
-  | inl h ↦ (let a : coming t e ≡ 1 = ap (λ b. cond b 1 0) (lt-ltb t e h) in let b = coming_most u e in omega arith)
-  | inr h ↦ (let a : coming u e ≡ 0 = ap (λ b. cond b 1 0) (le-ltb u e (omega arith)) in omega arith)
-]
+coming_le t u e le = grind (arith, nat_tests)
 
 coming_lt : (t u e : ℕ) → t < u → u ≡ e → coming u e < coming t e
 unfolding coming
-coming_lt t u e lt is =
-    let a : coming t e ≡ 1 = ap (λ b. cond b 1 0) (lt-ltb t e (omega arith)) in
-    let b : coming u e ≡ 0 = ap (λ b. cond b 1 0) (le-ltb u e (omega arith)) in
-    omega arith
+coming_lt t u e lt is = grind (arith, nat_tests)
 
 module _ (P : Plan) (p : ℕ) where
   edges_with : ℕ → ℕ → ℕ → ℕ
