@@ -65,15 +65,7 @@ module _ (P : Plan) (p : ℕ) where
 
   at_le : (t u f h : ℕ) → t ≤ u → edges_at u f h ≤ edges_at t f h
   unfolding edges_at edges_with
-  at_le t u f h le = elim (cases_Bool (eqb (port_at P f h) p)) [
-    | inl y ↦ (let a : edges_at t f h ≡ edges_with t f h = cond-true (eqb (port_at P f h) p) (edges_with t f h) 0 y in
-        let b : edges_at u f h ≡ edges_with u f h = cond-true (eqb (port_at P f h) p) (edges_with u f h) 0 y in
-        let c = coming_le t u (offset_at P f h - 2 * P.error) le in
-        let d = coming_le t u (offset_at P f h) le in
-        let e = coming_le t u (end_at P f h) le in
-        omega arith)
-    | inr n ↦ (let a : edges_at u f h ≡ 0 = cond-false (eqb (port_at P f h) p) (edges_with u f h) 0 n in omega arith)
-  ]
+  at_le t u f h le = grind (arith, nat_tests, coming_le)
 
   at_lt : (t u f h : ℕ) → Edge P p t u f h → edges_at u f h < edges_at t f h
   unfolding edges_at edges_with
@@ -108,11 +100,7 @@ module _ (P : Plan) (p : ℕ) where
 
   with_most : (t f h : ℕ) → edges_with t f h ≤ 3
   unfolding edges_with
-  with_most t f h =
-      let a = coming_most t (offset_at P f h - 2 * P.error) in
-      let b = coming_most t (offset_at P f h) in
-      let c = coming_most t (end_at P f h) in
-      omega arith
+  with_most t f h = grind (arith, coming_most)
 
   -- one hop of a flow at most is at the port
   flow_most : (t f n : ℕ) → ((h k : ℕ) → h < k → k < n → port_at P f h ≡ port_at P f k → ⊥) → sum n (edges_at t f) ≤ 3

@@ -45,11 +45,7 @@ pub record Edge (P : Plan) (p t u f h : ℕ) : Type 0 where
 module _ (P : Plan) (p t : ℕ) where
   -- one window
   with_le : (f h u : ℕ) → until_with t (offset_at P f h - 2 * P.error) (offset_at P f h) (end_at P f h) u ≤ u
-  with_le f h u =
-      let a = near_le t (offset_at P f h - 2 * P.error) u in
-      let b = near_le t (offset_at P f h) (nearer t (offset_at P f h - 2 * P.error) u) in
-      let c = near_le t (end_at P f h) (nearer t (offset_at P f h) (nearer t (offset_at P f h - 2 * P.error) u)) in
-      omega arith
+  with_le f h u = grind (arith, near_le)
 
   with_gt : (f h u : ℕ) → t < u → t < until_with t (offset_at P f h - 2 * P.error) (offset_at P f h) (end_at P f h) u
   with_gt f h u lt = near_gt t (end_at P f h) _ (near_gt t (offset_at P f h) _ (near_gt t (offset_at P f h - 2 * P.error) u lt))
