@@ -1,11 +1,11 @@
 -- Between two edges the octet stays.
-use Rattle.std.proofs.Common.{◌≡◌, ℕ, zero, suc, ◌+◌, ◌-◌, ◌*◌, ◌<◌, ◌≤◌, Bool, cond, ◌&&◌, ◌||◌, eqb, ltb, leb, ◌⊎◌, sym, refl, ap, ◌∙◌, subst, inl, inr, arith}
+use Rattle.std.proofs.Common.{◌≡◌, ℕ, zero, suc, ◌+◌, ◌-◌, ◌*◌, ◌<◌, ◌≤◌, Bool, ◌&&◌, ◌||◌, eqb, ltb, leb, ◌⊎◌, sym, refl, ap, ◌∙◌, subst, inl, inr, arith}
 use Rattle.std.proofs.lemmas.Bool.Decides.{nat_tests}
-use Rattle.std.proofs.lemmas.Bool.{cases_lt, cases_eq, cases_Bool, lt-ltb, le-ltb, le-leb, lt-leb, eqb-true, eqb-false, ltb-true, and_parts, cond_both}
+use Rattle.std.proofs.lemmas.Bool.{cases_eq, cases_Bool, eqb-true}
 use Rattle.schedule.specs.Plan.{Plan, flow_count, hop_count, port_at, offset_at, end_at}
 use Rattle.gates.specs.declared.list.stretch.Stretch.{Stretch}
 use Rattle.gates.specs.Octets.{some, inside, ahead, octet_by, octet_at}
-use Rattle.gates.specs.Scan.{nearer, until_with, stretch_with, stretch_at, stretch_hops, stretch_flows, open_stretch, stretch_after}
+use Rattle.gates.specs.Scan.{nearer, until_with, stretch_at, stretch_hops, stretch_flows, open_stretch, stretch_after}
 
 -- an edge is not between a tick and a later one
 abbrev pub Off : ℕ → ℕ → ℕ → Type 0
@@ -48,7 +48,7 @@ module _ (P : Plan) (p t : ℕ) where
   with_le f h u = grind (arith, near_le)
 
   with_gt : (f h u : ℕ) → t < u → t < until_with t (offset_at P f h - 2 * P.error) (offset_at P f h) (end_at P f h) u
-  with_gt f h u lt = near_gt t (end_at P f h) _ (near_gt t (offset_at P f h) _ (near_gt t (offset_at P f h - 2 * P.error) u lt))
+  with_gt f h u lt = grind (arith, near_gt)
 
   with_quiet : (f h u : ℕ) → Quiet P t (until_with t (offset_at P f h - 2 * P.error) (offset_at P f h) (end_at P f h) u) f h
   with_quiet f h u =
@@ -65,27 +65,12 @@ module _ (P : Plan) (p t : ℕ) where
 
   with_is : (f h u : ℕ) → port_at P f h ≡ p → (until_with t (offset_at P f h - 2 * P.error) (offset_at P f h) (end_at P f h) u ≡ u)
       ⊎ Edge P p t (until_with t (offset_at P f h - 2 * P.error) (offset_at P f h) (end_at P f h) u) f h
-  with_is f h u at =
-      let g = offset_at P f h - 2 * P.error in
-      let o = offset_at P f h in
-      let e = end_at P f h in
-      elim (near_is t e (nearer t o (nearer t g u))) [
-        | inr y ↦ inr (record { at = at; after = omega arith; is = inr (inr y.0) })
-        | inl x ↦ elim (near_is t o (nearer t g u)) [
-          | inr y ↦ inr (record { at = at; after = omega arith; is = inr (inl (x ∙ y.0)) })
-          | inl z ↦ elim (near_is t g u) [
-            | inr y ↦ inr (record { at = at; after = omega arith; is = inl (x ∙ z ∙ y.0) })
-            | inl v ↦ inl (x ∙ z ∙ v)
-          ]
-        ]
-      ]
+  with_is f h u at = grind (arith, near_is)
 
   -- one hop
   hop_until : (f h : ℕ) (s : Stretch) (Q : ℕ → Type 0) → (port_at P f h ≡ p → Q (until_with t (offset_at P f h - 2 * P.error) (offset_at P f h) (end_at P f h) s.until))
       → ((port_at P f h ≡ p → ⊥) → Q s.until) → Q (stretch_at P p t f h s).until
-  hop_until f h s Q yes_at no_at =
-      cond_both (eqb (port_at P f h) p) (stretch_with t (offset_at P f h - 2 * P.error) (offset_at P f h) (end_at P f h) s) s (λ (r : Stretch). Q r.until)
-      (λ e. yes_at (eqb-true (port_at P f h) p e)) (λ e. no_at (eqb-false (port_at P f h) p e))
+  hop_until f h s Q yes_at no_at = grind (arith, nat_tests)
 
   hop_le : (f h : ℕ) (s : Stretch) → (stretch_at P p t f h s).until ≤ s.until
   hop_le f h s = hop_until f h s (λ u. u ≤ s.until) (λ e. with_le f h s.until) (λ e. omega arith)
