@@ -88,8 +88,8 @@ impl Stretch {
     }
 }
 
-#[tactic(auto, unfolding(crate::specs::Scan::stretch_after))]
 /// The stretch of a port from a tick on.
+#[tactic(auto, unfolding(crate::specs::Scan::stretch_after))]
 pub(crate) fn stretch_from(plan: &CheckedPlan, port: usize, tick: u64) -> Stretch
     ensures { result ≡ stretch_after (checked_plan plan.now) port tick }
 {
