@@ -1,6 +1,7 @@
 -- A list, its hold and the next list: what holds from a tick on, and for how long a gate stays open.
-use Rattle.std.proofs.Common.{◌≡◌, ℕ, ◌+◌, ◌-◌, ◌<◌, ◌≤◌, min, Bool, true, false, cond, leb, List, Some, None, vec_items, Option, sym, refl, ap, ◌∙◌, subst, inl, inr, arith}
-use Rattle.std.proofs.lemmas.Bool.{cases_lt, le-leb, lt-leb}
+use Rattle.std.proofs.Common.{◌≡◌, ℕ, ◌+◌, ◌-◌, ◌<◌, ◌≤◌, min, Bool, true, false, List, Some, None, vec_items, Option, sym, refl, ap, ◌∙◌, subst, inl, inr, arith}
+use Rattle.std.proofs.lemmas.Bool.Decides.{nat_tests}
+use Rattle.std.proofs.lemmas.Bool.{cases_lt}
 use Rattle.gates.specs.declared.entry.GateEntry.{GateEntry}
 use Rattle.gates.specs.declared.span.Span.{Span}
 use Rattle.gates.specs.declared.timetable.Rotation.{Rotation}
@@ -15,30 +16,30 @@ module _ (es : List GateEntry) (C B : ℕ) (fs : List GateEntry) (D T : ℕ) whe
   -- the three parts
   pub octet_after : (l : ℕ) → T ≤ l → lists_octet es C B fs D T l ≡ list_octet fs D T l
   unfolding lists_octet
-  octet_after l le = ap (λ b. cond b (list_octet fs D T l) (cond (leb (held_from C B T) l) (last_octet es) (list_octet es C B l))) (le-leb T l le)
+  octet_after l le = grind (arith, nat_tests)
 
   pub octet_held : (l : ℕ) → held_from C B T ≤ l → l < T → lists_octet es C B fs D T l ≡ last_octet es
   unfolding lists_octet
-  octet_held l le lt = λ i. cond (lt-leb T l lt i) (list_octet fs D T l) (cond (le-leb (held_from C B T) l le i) (last_octet es) (list_octet es C B l))
+  octet_held l le lt = grind (arith, nat_tests)
 
   pub octet_first : (l : ℕ) → l < held_from C B T → lists_octet es C B fs D T l ≡ list_octet es C B l
   unfolding lists_octet
-  octet_first l lt = let k : l < T = omega arith in λ i. cond (lt-leb T l k i) (list_octet fs D T l) (cond (lt-leb (held_from C B T) l lt i) (last_octet es) (list_octet es C B l))
+  octet_first l lt = grind (arith, nat_tests)
 
   abbrev kept : ℕ → Span
   kept l = record { octet = last_octet es; ticks = T - l }
 
   pub span_after : (l : ℕ) → T ≤ l → lists_span es C B fs D T l ≡ list_span fs D T l
   unfolding lists_span
-  span_after l le = ap (λ b. cond b (list_span fs D T l) (cond (leb (held_from C B T) l) (kept l) (cut_to (held_from C B T - l) (list_span es C B l)))) (le-leb T l le)
+  span_after l le = grind (arith, nat_tests)
 
   pub span_held : (l : ℕ) → held_from C B T ≤ l → l < T → lists_span es C B fs D T l ≡ kept l
   unfolding lists_span
-  span_held l le lt = λ i. cond (lt-leb T l lt i) (list_span fs D T l) (cond (le-leb (held_from C B T) l le i) (kept l) (cut_to (held_from C B T - l) (list_span es C B l)))
+  span_held l le lt = grind (arith, nat_tests)
 
   pub span_first : (l : ℕ) → l < held_from C B T → lists_span es C B fs D T l ≡ cut_to (held_from C B T - l) (list_span es C B l)
   unfolding lists_span
-  span_first l lt = let k : l < T = omega arith in λ i. cond (lt-leb T l k i) (list_span fs D T l) (cond (lt-leb (held_from C B T) l lt i) (kept l) (cut_to (held_from C B T - l) (list_span es C B l)))
+  span_first l lt = grind (arith, nat_tests)
 
   lists_stays : total es ≡ C → 0 < C → total fs ≡ D → 0 < D → (l : ℕ) → Stays (lists_octet es C B fs D T) l (lists_span es C B fs D T l)
   lists_stays we se wf sf l = elim (cases_lt l T) [

@@ -1,6 +1,7 @@
 -- A port has at most 48 edges, and each stretch but the last ends at one.
-use Rattle.std.proofs.Common.{◌≡◌, ℕ, zero, suc, ◌+◌, ◌-◌, ◌*◌, ◌<◌, ◌≤◌, cond, eqb, ltb, sym, refl, ap, ◌∙◌, subst, inl, inr, mul-suc, arith}
-use Rattle.std.proofs.lemmas.Bool.{cases_lt, cases_eq, cases_Bool, lt-ltb, le-ltb, eq-eqb, eqb-true, ne_eqb, cond_both, cond-true, cond-false}
+use Rattle.std.proofs.Common.{◌≡◌, ℕ, zero, suc, ◌+◌, ◌-◌, ◌*◌, ◌<◌, ◌≤◌, cond, eqb, ltb, sym, refl, ◌∙◌, subst, inl, inr, mul-suc, arith}
+use Rattle.std.proofs.lemmas.Bool.Decides.{nat_tests}
+use Rattle.std.proofs.lemmas.Bool.{cases_eq, cases_Bool, eq-eqb, eqb-true, ne_eqb, cond-true, cond-false}
 use Rattle.schedule.specs.Plan.{Plan, flow_count, hop_count, port_at, offset_at, end_at}
 use Rattle.schedule.specs.declared.checked.CheckedPlan.{CheckedPlan}
 use Rattle.schedule.specs.Checks.{checked_plan}
@@ -41,21 +42,15 @@ coming t e = cond (ltb t e) 1 0
 
 coming_most : (t e : ℕ) → coming t e ≤ 1
 unfolding coming
-coming_most t e = cond_both (ltb t e) 1 0 (λ x. x ≤ 1) (λ q. omega arith) (λ q. omega arith)
+coming_most t e = grind (arith, nat_tests)
 
 coming_le : (t u e : ℕ) → t ≤ u → coming u e ≤ coming t e
 unfolding coming
-coming_le t u e le = elim (cases_lt t e) [
-  | inl h ↦ (let a : coming t e ≡ 1 = ap (λ b. cond b 1 0) (lt-ltb t e h) in let b = coming_most u e in omega arith)
-  | inr h ↦ (let a : coming u e ≡ 0 = ap (λ b. cond b 1 0) (le-ltb u e (omega arith)) in omega arith)
-]
+coming_le t u e le = grind (arith, nat_tests)
 
 coming_lt : (t u e : ℕ) → t < u → u ≡ e → coming u e < coming t e
 unfolding coming
-coming_lt t u e lt is =
-    let a : coming t e ≡ 1 = ap (λ b. cond b 1 0) (lt-ltb t e (omega arith)) in
-    let b : coming u e ≡ 0 = ap (λ b. cond b 1 0) (le-ltb u e (omega arith)) in
-    omega arith
+coming_lt t u e lt is = grind (arith, nat_tests)
 
 module _ (P : Plan) (p : ℕ) where
   edges_with : ℕ → ℕ → ℕ → ℕ
@@ -70,15 +65,7 @@ module _ (P : Plan) (p : ℕ) where
 
   at_le : (t u f h : ℕ) → t ≤ u → edges_at u f h ≤ edges_at t f h
   unfolding edges_at edges_with
-  at_le t u f h le = elim (cases_Bool (eqb (port_at P f h) p)) [
-    | inl y ↦ (let a : edges_at t f h ≡ edges_with t f h = cond-true (eqb (port_at P f h) p) (edges_with t f h) 0 y in
-        let b : edges_at u f h ≡ edges_with u f h = cond-true (eqb (port_at P f h) p) (edges_with u f h) 0 y in
-        let c = coming_le t u (offset_at P f h - 2 * P.error) le in
-        let d = coming_le t u (offset_at P f h) le in
-        let e = coming_le t u (end_at P f h) le in
-        omega arith)
-    | inr n ↦ (let a : edges_at u f h ≡ 0 = cond-false (eqb (port_at P f h) p) (edges_with u f h) 0 n in omega arith)
-  ]
+  at_le t u f h le = grind (arith, nat_tests, coming_le)
 
   at_lt : (t u f h : ℕ) → Edge P p t u f h → edges_at u f h < edges_at t f h
   unfolding edges_at edges_with
@@ -113,11 +100,7 @@ module _ (P : Plan) (p : ℕ) where
 
   with_most : (t f h : ℕ) → edges_with t f h ≤ 3
   unfolding edges_with
-  with_most t f h =
-      let a = coming_most t (offset_at P f h - 2 * P.error) in
-      let b = coming_most t (offset_at P f h) in
-      let c = coming_most t (end_at P f h) in
-      omega arith
+  with_most t f h = grind (arith, coming_most)
 
   -- one hop of a flow at most is at the port
   flow_most : (t f n : ℕ) → ((h k : ℕ) → h < k → k < n → port_at P f h ≡ port_at P f k → ⊥) → sum n (edges_at t f) ≤ 3

@@ -1,40 +1,31 @@
 -- Between two edges the octet stays.
-use Rattle.std.proofs.Common.{◌≡◌, ℕ, zero, suc, ◌+◌, ◌-◌, ◌*◌, ◌<◌, ◌≤◌, Bool, cond, ◌&&◌, ◌||◌, eqb, ltb, leb, ◌⊎◌, sym, refl, ap, ◌∙◌, subst, inl, inr, arith}
-use Rattle.std.proofs.lemmas.Bool.{cases_lt, cases_eq, cases_Bool, lt-ltb, le-ltb, le-leb, lt-leb, eqb-true, eqb-false, ltb-true, and_parts, cond_both}
+use Rattle.std.proofs.Common.{◌≡◌, ℕ, zero, suc, ◌+◌, ◌-◌, ◌*◌, ◌<◌, ◌≤◌, Bool, ◌&&◌, ◌||◌, eqb, ltb, leb, ◌⊎◌, sym, refl, ap, ◌∙◌, subst, inl, inr, arith}
+use Rattle.std.proofs.lemmas.Bool.Decides.{nat_tests}
+use Rattle.std.proofs.lemmas.Bool.{cases_eq, cases_Bool, eqb-true}
 use Rattle.schedule.specs.Plan.{Plan, flow_count, hop_count, port_at, offset_at, end_at}
 use Rattle.gates.specs.declared.list.stretch.Stretch.{Stretch}
 use Rattle.gates.specs.Octets.{some, inside, ahead, octet_by, octet_at}
-use Rattle.gates.specs.Scan.{nearer, until_with, stretch_with, stretch_at, stretch_hops, stretch_flows, open_stretch, stretch_after}
+use Rattle.gates.specs.Scan.{nearer, until_with, stretch_at, stretch_hops, stretch_flows, open_stretch, stretch_after}
 
 -- an edge is not between a tick and a later one
 abbrev pub Off : ℕ → ℕ → ℕ → Type 0
 Off t u e = (e ≤ t) ⊎ (u ≤ e)
 
 near_le : (t e n : ℕ) → nearer t e n ≤ n
-near_le t e n = cond_both (ltb t e && ltb e n) e n (λ x. x ≤ n) (λ q. omega (arith, ltb-true e n (and_parts (ltb t e) (ltb e n) q).1)) (λ q. omega arith)
+near_le t e n = grind (arith, nat_tests)
 
 near_gt : (t e n : ℕ) → t < n → t < nearer t e n
-near_gt t e n h = cond_both (ltb t e && ltb e n) e n (λ x. t < x) (λ q. ltb-true t e (and_parts (ltb t e) (ltb e n) q).0) (λ q. h)
+near_gt t e n h = grind (arith, nat_tests)
 
 near_off : (t e n : ℕ) → Off t (nearer t e n) e
-near_off t e n = elim (cases_lt t e) [
-  | inr h ↦ inl h
-  | inl h ↦ elim (cases_lt e n) [
-    | inl k ↦ inr (let q : nearer t e n ≡ e = (λ i. cond (lt-ltb t e h i && lt-ltb e n k i) e n) in omega arith)
-    | inr k ↦ inr (omega (arith, near_le t e n))
-  ]
-]
+near_off t e n = grind (arith, nat_tests)
 
 -- it is the one known before, or the edge
 near_is : (t e n : ℕ) → (nearer t e n ≡ n) ⊎ ((nearer t e n ≡ e) × (t < e))
-near_is t e n = elim (cases_Bool (ltb t e && ltb e n)) [
-  | inl y ↦ inr (ap (λ b. cond b e n) y, ltb-true t e (and_parts (ltb t e) (ltb e n) y).0)
-  | inr k ↦ inl (ap (λ b. cond b e n) k)
-]
+near_is t e n = grind (arith, nat_tests)
 
 off_sooner : (t u v e : ℕ) → v ≤ u → Off t u e → Off t v e
-off_sooner t u v e le (inl h) = inl h
-off_sooner t u v e le (inr h) = inr (omega arith)
+off_sooner t u v e le h = grind arith
 
 -- no edge of the window of hop h of flow f lies between
 pub record Quiet (P : Plan) (t u f h : ℕ) : Type 0 where
@@ -54,14 +45,10 @@ pub record Edge (P : Plan) (p t u f h : ℕ) : Type 0 where
 module _ (P : Plan) (p t : ℕ) where
   -- one window
   with_le : (f h u : ℕ) → until_with t (offset_at P f h - 2 * P.error) (offset_at P f h) (end_at P f h) u ≤ u
-  with_le f h u =
-      let a = near_le t (offset_at P f h - 2 * P.error) u in
-      let b = near_le t (offset_at P f h) (nearer t (offset_at P f h - 2 * P.error) u) in
-      let c = near_le t (end_at P f h) (nearer t (offset_at P f h) (nearer t (offset_at P f h - 2 * P.error) u)) in
-      omega arith
+  with_le f h u = grind (arith, near_le)
 
   with_gt : (f h u : ℕ) → t < u → t < until_with t (offset_at P f h - 2 * P.error) (offset_at P f h) (end_at P f h) u
-  with_gt f h u lt = near_gt t (end_at P f h) _ (near_gt t (offset_at P f h) _ (near_gt t (offset_at P f h - 2 * P.error) u lt))
+  with_gt f h u lt = grind (arith, near_gt)
 
   with_quiet : (f h u : ℕ) → Quiet P t (until_with t (offset_at P f h - 2 * P.error) (offset_at P f h) (end_at P f h) u) f h
   with_quiet f h u =
@@ -78,27 +65,12 @@ module _ (P : Plan) (p t : ℕ) where
 
   with_is : (f h u : ℕ) → port_at P f h ≡ p → (until_with t (offset_at P f h - 2 * P.error) (offset_at P f h) (end_at P f h) u ≡ u)
       ⊎ Edge P p t (until_with t (offset_at P f h - 2 * P.error) (offset_at P f h) (end_at P f h) u) f h
-  with_is f h u at =
-      let g = offset_at P f h - 2 * P.error in
-      let o = offset_at P f h in
-      let e = end_at P f h in
-      elim (near_is t e (nearer t o (nearer t g u))) [
-        | inr y ↦ inr (record { at = at; after = omega arith; is = inr (inr y.0) })
-        | inl x ↦ elim (near_is t o (nearer t g u)) [
-          | inr y ↦ inr (record { at = at; after = omega arith; is = inr (inl (x ∙ y.0)) })
-          | inl z ↦ elim (near_is t g u) [
-            | inr y ↦ inr (record { at = at; after = omega arith; is = inl (x ∙ z ∙ y.0) })
-            | inl v ↦ inl (x ∙ z ∙ v)
-          ]
-        ]
-      ]
+  with_is f h u at = grind (arith, near_is)
 
   -- one hop
   hop_until : (f h : ℕ) (s : Stretch) (Q : ℕ → Type 0) → (port_at P f h ≡ p → Q (until_with t (offset_at P f h - 2 * P.error) (offset_at P f h) (end_at P f h) s.until))
       → ((port_at P f h ≡ p → ⊥) → Q s.until) → Q (stretch_at P p t f h s).until
-  hop_until f h s Q yes_at no_at =
-      cond_both (eqb (port_at P f h) p) (stretch_with t (offset_at P f h - 2 * P.error) (offset_at P f h) (end_at P f h) s) s (λ (r : Stretch). Q r.until)
-      (λ e. yes_at (eqb-true (port_at P f h) p e)) (λ e. no_at (eqb-false (port_at P f h) p e))
+  hop_until f h s Q yes_at no_at = grind (arith, nat_tests)
 
   hop_le : (f h : ℕ) (s : Stretch) → (stretch_at P p t f h s).until ≤ s.until
   hop_le f h s = hop_until f h s (λ u. u ≤ s.until) (λ e. with_le f h s.until) (λ e. omega arith)
@@ -190,16 +162,13 @@ some_same zero q r e = refl
 some_same (suc n) q r e = λ i. e n (omega arith) i || some_same n q r (λ k l. e k (omega arith)) i
 
 leb_same : (o t x u : ℕ) → t ≤ x → x < u → Off t u o → leb o x ≡ leb o t
-leb_same o t x u a b (inl h) = le-leb o x (omega arith) ∙ sym (le-leb o t h)
-leb_same o t x u a b (inr h) = lt-leb o x (omega arith) ∙ sym (lt-leb o t (omega arith))
+leb_same o t x u a b h = grind (arith, nat_tests)
 
 ltb_same : (e t x u : ℕ) → t ≤ x → x < u → Off t u e → ltb x e ≡ ltb t e
-ltb_same e t x u a b (inl h) = le-ltb x e (omega arith) ∙ sym (le-ltb t e h)
-ltb_same e t x u a b (inr h) = lt-ltb x e (omega arith) ∙ sym (lt-ltb t e (omega arith))
+ltb_same e t x u a b h = grind (arith, nat_tests)
 
 near_same : (o d t x u : ℕ) → t ≤ x → x < u → Off t u (o - d) → leb o (x + d) ≡ leb o (t + d)
-near_same o d t x u a b (inl h) = le-leb o (x + d) (omega arith) ∙ sym (le-leb o (t + d) (omega arith))
-near_same o d t x u a b (inr h) = lt-leb o (x + d) (omega arith) ∙ sym (lt-leb o (t + d) (omega arith))
+near_same o d t x u a b h = grind (arith, nat_tests)
 
 module _ (P : Plan) (p t x : ℕ) (le : t ≤ x) (lt : x < (stretch_after P p t).until) where
   abbrev u : ℕ

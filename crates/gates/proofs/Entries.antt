@@ -1,7 +1,8 @@
 -- Lists of entries with one more behind.
-use Rattle.std.proofs.Common.{◌≡◌, ℕ, suc, ◌+◌, ◌-◌, ◌<◌, ◌≤◌, cond, ltb, List, [], ◌∷◌, ◌++◌, length, get_or, sym, refl, ap, ◌∙◌, subst, inl, inr, arith}
+use Rattle.std.proofs.Common.{◌≡◌, ℕ, suc, ◌+◌, ◌-◌, ◌<◌, ◌≤◌, cond, List, [], ◌∷◌, ◌++◌, length, get_or, sym, refl, ap, ◌∙◌, arith}
 use Rattle.std.proofs.lemmas.List.{length_push, get_or_append_left, get_or_push}
-use Rattle.std.proofs.lemmas.Bool.{cases_lt, lt-ltb, le-ltb}
+use Rattle.std.proofs.lemmas.Bool.Decides.{nat_tests}
+use Rattle.std.proofs.lemmas.Bool.{lt-ltb, le-ltb}
 use Rattle.gates.specs.declared.entry.GateEntry.{GateEntry}
 use Rattle.gates.specs.Lists.{no_entry, total, yields, Lasting, Changing}
 
@@ -18,36 +19,25 @@ yields_tail e es x le = ap (λ b. cond b e.octet (yields es (x - e.ticks))) (le-
 -- within the entries before, what they yield
 pub yields_before : (es : List GateEntry) (e : GateEntry) (x : ℕ) → x < total es → yields (es ++ e ∷ []) x ≡ yields es x
 yields_before [] e x lt = absurd (omega arith)
-yields_before (d ∷ es) e x lt = elim (cases_lt x d.ticks) [
-  | inl h ↦ (λ i. cond (lt-ltb x d.ticks h i) d.octet (yields (es ++ e ∷ []) (x - d.ticks))) ∙ sym (λ i. cond (lt-ltb x d.ticks h i) d.octet (yields es (x - d.ticks)))
-  | inr h ↦ ap (λ n. cond (ltb x d.ticks) d.octet n) (yields_before es e (x - d.ticks) (omega arith))
-]
+yields_before (d ∷ es) e x lt = grind (arith, nat_tests, yields_before es e (x - d.ticks))
 
 -- after them, the octet of the last
 pub yields_last : (es : List GateEntry) (e : GateEntry) (x : ℕ) → total es ≤ x → x < total es + e.ticks → yields (es ++ e ∷ []) x ≡ e.octet
-yields_last [] e x le lt = ap (λ b. cond b e.octet (yields [] (x - e.ticks))) (lt-ltb x e.ticks (omega arith))
-yields_last (d ∷ es) e x le lt =
-    ap (λ b. cond b d.octet (yields (es ++ e ∷ []) (x - d.ticks))) (le-ltb x d.ticks (omega arith)) ∙ yields_last es e (x - d.ticks) (omega arith) (omega arith)
+yields_last [] e x le lt = grind (arith, nat_tests)
+yields_last (d ∷ es) e x le lt = grind (arith, nat_tests, yields_last es e (x - d.ticks))
 
 pub lasting_push : (es : List GateEntry) (e : GateEntry) → Lasting es → 0 < e.ticks → Lasting (es ++ e ∷ [])
-lasting_push es e held h i lt = elim (cases_lt i (length es)) [
-  | inl k ↦ subst (λ (x : GateEntry). 0 < x.ticks) (sym (get_or_append_left es (e ∷ []) no_entry i k)) (held i k)
-  | inr k ↦ subst (λ (x : GateEntry). 0 < x.ticks) (sym (get_or_push es e no_entry i (omega (arith, length_push es e)))) h
-]
+lasting_push es e held h i lt = grind (arith, held i, length_push, get_or_append_left, get_or_push)
 
 -- the last of the entries has another octet
 abbrev pub EndsOther : List GateEntry → ℕ → Type 0
 EndsOther es o = (i : ℕ) → i + 1 ≡ length es → (get_or es i no_entry).octet ≡ o → ⊥
 
 pub changing_push : (es : List GateEntry) (e : GateEntry) → Changing es → EndsOther es e.octet → Changing (es ++ e ∷ [])
-changing_push es e held other i lt same = elim (cases_lt (i + 1) (length es)) [
-  | inl k ↦ held i k (sym (ap (λ (x : GateEntry). x.octet) (get_or_append_left es (e ∷ []) no_entry i (omega arith))) ∙ same ∙ ap (λ (x : GateEntry). x.octet) (get_or_append_left es (e ∷ []) no_entry (i + 1) k))
-  | inr k ↦ (let n : i + 1 ≡ length es = omega (arith, length_push es e) in
-      other i n (sym (ap (λ (x : GateEntry). x.octet) (get_or_append_left es (e ∷ []) no_entry i (omega arith))) ∙ same ∙ ap (λ (x : GateEntry). x.octet) (get_or_push es e no_entry (i + 1) (sym n))))
-]
+changing_push es e held other i lt same = grind (arith, held i, other i, length_push, get_or_append_left, get_or_push)
 
 pub ends_push : (es : List GateEntry) (e : GateEntry) (o : ℕ) → (e.octet ≡ o → ⊥) → EndsOther (es ++ e ∷ []) o
-ends_push es e o other i n same = other (sym (ap (λ (x : GateEntry). x.octet) (get_or_push es e no_entry i (omega (arith, length_push es e)))) ∙ same)
+ends_push es e o other i n same = grind (arith, length_push, get_or_push)
 
 -- the last tick of a list is in its last entry
 pub ends_with : (es : List GateEntry) → Lasting es → yields es (total es - 1) ≡ (get_or es (length es - 1) no_entry).octet

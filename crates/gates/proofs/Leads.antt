@@ -1,7 +1,7 @@
 -- For how many numbers in a row a test holds.
 use Rattle.std.proofs.Common.{◌≡◌, ℕ, zero, suc, ◌+◌, ◌-◌, ◌<◌, ◌≤◌, min, Bool, true, false, cond, eqb, sym, refl, ap, ◌∙◌, subst, inl, inr, arith}
-use native.Mathlib.Nat.{min-eq_left, min-eq_right}
-use Rattle.std.proofs.lemmas.Bool.{cases_lt, cases_eq, cases_Bool, and_left, and_right, and_from, eq-eqb, ne_eqb, both_ways}
+use Rattle.std.proofs.lemmas.Bool.Decides.{nat_tests}
+use Rattle.std.proofs.lemmas.Bool.{cases_lt, cases_Bool, both_ways}
 use Rattle.gates.specs.Timetable.{each}
 use Rattle.gates.specs.Octets.{opens}
 use Rattle.gates.specs.Lookup.{lead, Counts}
@@ -13,15 +13,12 @@ pub record Lead (q : ℕ → Bool) (n r : ℕ) : Type 0 where
   pub stops : r < n → q r ≡ false
 
 each_false : (q : ℕ → Bool) (n r : ℕ) → r < n → q r ≡ false → each n q ≡ false
-each_false q zero r lt f = absurd (omega arith)
-each_false q (suc n) r lt f = elim (cases_eq r n) [
-  | inl e ↦ and_left (q n) (each n q) (sym (ap q e) ∙ f)
-  | inr e ↦ and_right (q n) (each n q) (each_false q n r (omega arith) f)
-]
+each_false q zero r lt f = grind arith
+each_false q (suc n) r lt f = grind (arith, nat_tests, each_false q n r)
 
 each_true : (q : ℕ → Bool) (n : ℕ) → ((i : ℕ) → i < n → q i ≡ true) → each n q ≡ true
 each_true q zero h = refl
-each_true q (suc n) h = and_from (q n) (each n q) (h n (omega arith)) (each_true q n (λ i l. h i (omega arith)))
+each_true q (suc n) h = grind (arith, nat_tests, h n, each_true q n (λ i l. h i (omega arith)))
 
 lead_is : (q : ℕ → Bool) (n r : ℕ) → Lead q n r → r ≡ lead n q
 lead_is q zero r h = let w = h.within in omega arith
@@ -34,10 +31,7 @@ lead_is q (suc n) r h = elim (cases_lt n r) [
 ]
 
 each_holds : (q : ℕ → Bool) (n : ℕ) → each n q ≡ true → (i : ℕ) → i < n → q i ≡ true
-each_holds q n e i lt = elim (cases_Bool (q i)) [
-  | inl t ↦ t
-  | inr f ↦ absurd (both_ways (each n q) (each_false q n i lt f) e)
-]
+each_holds q n e i lt = grind (arith, nat_tests, each_false q n i)
 
 lead_of : (q : ℕ → Bool) (n : ℕ) → Lead q n (lead n q)
 lead_of q zero = record { within = omega arith; holds = λ i l. absurd (omega arith); stops = λ l. absurd (omega arith) }
@@ -64,22 +58,14 @@ lead_of q (suc n) = elim (cases_Bool (each (suc n) q)) [
 
 -- the count is all that were asked exactly where the test holds of each
 lead_all : (q : ℕ → Bool) (n r : ℕ) → Lead q n r → eqb r n ≡ each n q
-lead_all q n r h = elim (cases_eq r n) [
-  | inl e ↦ eq-eqb r n e ∙ sym (each_true q n (λ i l. h.holds i (omega arith)))
-  | inr e ↦ (let w = h.within in ne_eqb r n e ∙ sym (each_false q n r (omega arith) (h.stops (omega arith))))
-]
+lead_all q n r h = grind (arith, nat_tests, each_true q n, each_false q n r)
 
 -- a count that has stopped is the count of any longer asking, and cut to what is asked of any
 pub lead_longer : (q : ℕ → Bool) (k r n : ℕ) → Lead q k r → r < k → k ≤ n → Lead q n r
 lead_longer q k r n h lt le = record { within = omega arith; holds = h.holds; stops = λ l. h.stops lt }
 
 pub lead_cut : (q : ℕ → Bool) (k r n : ℕ) → Lead q k r → r < k → Lead q n (min r n)
-lead_cut q k r n h lt = elim (cases_lt r n) [
-  | inl l ↦ (let e : min r n ≡ r = min-eq_left (omega arith) in
-      subst (Lead q n) (sym e) (record { within = omega arith; holds = h.holds; stops = λ m. h.stops lt }))
-  | inr l ↦ (let e : min r n ≡ n = min-eq_right l in
-      subst (Lead q n) (sym e) (record { within = omega arith; holds = λ i m. h.holds i (omega arith); stops = λ m. absurd (omega arith) }))
-]
+lead_cut q k r n h lt = grind (arith, h.holds)
 
 pub lead_whole : (q : ℕ → Bool) (n : ℕ) → ((i : ℕ) → i < n → q i ≡ true) → Lead q n n
 lead_whole q n h = record { within = omega arith; holds = h; stops = λ l. absurd (omega arith) }

@@ -1,7 +1,8 @@
 -- A gate list that goes round: what holds from a tick on, and for how long a gate stays open.
-use Rattle.std.proofs.Common.{◌≡◌, ℕ, ◌+◌, ◌-◌, ◌/◌, ◌%◌, ◌^◌, ◌<◌, ◌≤◌, min, Bool, false, cond, eqb, ltb, List, [], ◌∷◌, sym, ap, ◌∙◌, subst, inl, inr, mod-lt, mod-eq_of_lt, arith}
-use native.Mathlib.Nat.{mod-add-mod, add-mod_left, zero-div}
-use Rattle.std.proofs.lemmas.Bool.{cases_lt, cases_Bool, lt-ltb, le-ltb, le-leb, lt-leb, and_right, cond_both}
+use Rattle.std.proofs.Common.{◌≡◌, ℕ, ◌+◌, ◌-◌, ◌%◌, ◌<◌, ◌≤◌, min, Bool, false, cond, List, [], ◌∷◌, sym, ap, ◌∙◌, subst, inl, inr, mod-lt, mod-eq_of_lt, arith}
+use native.Mathlib.Nat.{mod-add-mod, add-mod_left}
+use Rattle.std.proofs.lemmas.Bool.Decides.{nat_tests}
+use Rattle.std.proofs.lemmas.Bool.{cases_lt, cases_Bool, lt-ltb, le-ltb}
 use Rattle.gates.specs.declared.entry.GateEntry.{GateEntry}
 use Rattle.gates.specs.declared.span.Span.{Span}
 use Rattle.gates.specs.Octets.{opens}
@@ -38,22 +39,22 @@ phase C B l i le = let e : l - B + i ≡ l + i - B = omega arith in mod-add-mod 
 
 pub octet_round : (es : List GateEntry) (C B l i : ℕ) → B ≤ l → list_octet es C B (l + i) ≡ yields es (((l - B) % C + i) % C)
 unfolding list_octet
-octet_round es C B l i le = ap (λ b. cond b (yields es ((l + i - B) % C)) 0x00) (le-leb B (l + i) (omega arith)) ∙ sym (ap (yields es) (phase C B l i le))
+octet_round es C B l i le = grind (arith, nat_tests, phase C B l i)
 
 pub octet_before : (es : List GateEntry) (C B l : ℕ) → l < B → list_octet es C B l ≡ 0x00
 unfolding list_octet
-octet_before es C B l lt = ap (λ b. cond b (yields es ((l - B) % C)) 0x00) (lt-leb B l lt)
+octet_before es C B l lt = grind (arith, nat_tests)
 
 pub stays_from : (os : ℕ → ℕ) (l : ℕ) (s : Span) → 0 < s.ticks → ((i : ℕ) → i < s.ticks → os (l + i) ≡ s.octet) → Stays os l s
 stays_from os l s some on = let e : l + 0 ≡ l = omega arith in record { lasts = some; here = sym (ap os e) ∙ on 0 some; on = on }
 
 pub span_round : (es : List GateEntry) (C B l : ℕ) → B ≤ l → list_span es C B l ≡ entry_span es ((l - B) % C)
 unfolding list_span
-span_round es C B l le = ap (λ b. cond b (entry_span es ((l - B) % C)) (record { octet = 0x00; ticks = B - l })) (le-leb B l le)
+span_round es C B l le = grind (arith, nat_tests)
 
 pub span_before : (es : List GateEntry) (C B l : ℕ) → l < B → list_span es C B l ≡ record { octet = 0x00; ticks = B - l }
 unfolding list_span
-span_before es C B l lt = ap (λ b. cond b (entry_span es ((l - B) % C)) (record { octet = 0x00; ticks = B - l })) (lt-leb B l lt)
+span_before es C B l lt = grind (arith, nat_tests)
 
 pub list_stays : (es : List GateEntry) (C : ℕ) → total es ≡ C → 0 < C → (B l : ℕ) → Stays (list_octet es C B) l (list_span es C B l)
 list_stays es C whole some B l = elim (cases_lt l B) [
@@ -101,10 +102,7 @@ open_walk (e ∷ es) x c le = elim (cases_lt x e.ticks) [
 -- the open ticks of a walk are no more than the entries last
 pub open_most : (es : List GateEntry) (x c : ℕ) → entry_open es x c ≤ total es
 open_most [] x c = omega arith
-open_most (e ∷ es) x c =
-    cond_both (ltb x e.ticks) (cond (opens e.octet c) (e.ticks - x + entry_open es 0 c) 0) (entry_open es (x - e.ticks) c) (λ n. n ≤ e.ticks + total es)
-    (λ y. cond_both (opens e.octet c) (e.ticks - x + entry_open es 0 c) 0 (λ n. n ≤ e.ticks + total es) (λ z. omega (arith, open_most es 0 c)) (λ z. omega arith))
-    (λ y. omega (arith, open_most es (x - e.ticks) c))
+open_most (e ∷ es) x c = grind (arith, nat_tests, open_most es 0 c, open_most es (x - e.ticks) c)
 
 -- from tick x of the entries on, going round, for m ticks
 module _ (es : List GateEntry) (C : ℕ) (whole : total es ≡ C) (x c m : ℕ) (lt : x < C) where
@@ -151,7 +149,7 @@ module _ (es : List GateEntry) (C : ℕ) (whole : total es ≡ C) (x c m : ℕ) 
 -- a list with its base
 module _ (es : List GateEntry) (C B l c m : ℕ) where
   shut : opens 0x00 c ≡ false
-  shut = and_right (ltb c 8) (eqb (0x00 / 2 ^ c % 2) 1) (ap (λ n. eqb (n % 2) 1) (zero-div (2 ^ c)))
+  shut = grind (arith, nat_tests)
 
   pub list_shut : l < B → Counts (list_octet es C B) l c m 0
   list_shut lt = counted (list_octet es C B) l c m 0

@@ -1,8 +1,8 @@
 -- A port has one gate list.
-use Rattle.std.proofs.Common.{◌≡◌, ℕ, suc, ◌+◌, ◌-◌, ◌<◌, List, [], ◌∷◌, get_or, sym, refl, ap, ◌∙◌, inl, inr, arith}
+use Rattle.std.proofs.Common.{◌≡◌, ℕ, suc, ◌+◌, ◌-◌, ◌<◌, List, [], ◌∷◌, sym, refl, ap, ◌∙◌, inl, inr, arith}
 use Rattle.std.proofs.lemmas.Bool.{cases_order}
 use Rattle.gates.specs.declared.entry.GateEntry.{GateEntry}
-use Rattle.gates.specs.Lists.{no_entry, total, yields, Lasting, Changing, OneGateList}
+use Rattle.gates.specs.Lists.{total, yields, Lasting, Changing, OneGateList}
 use Rattle.gates.proofs.Entries.{yields_head, yields_tail}
 
 -- two lists that yield the same
@@ -13,19 +13,13 @@ lasting_tail : (e : GateEntry) (es : List GateEntry) → Lasting (e ∷ es) → 
 lasting_tail e es held i lt = held (suc i) (omega arith)
 
 changing_tail : (e : GateEntry) (es : List GateEntry) → Changing (e ∷ es) → Changing es
-changing_tail e es held i lt same =
-    let at : suc i + 1 ≡ suc (i + 1) = omega arith in
-    held (suc i) (omega arith) (same ∙ sym (ap (λ n. (get_or (e ∷ es) n no_entry).octet) at))
+changing_tail e es held i lt same = grind (arith, held (suc i))
 
 -- with one octet in front, neither list can leave it first
 not_shorter : (e : GateEntry) (es : List GateEntry) (f : GateEntry) (fs : List GateEntry) → Lasting (e ∷ es) → Changing (e ∷ es) → total (e ∷ es) ≡ total (f ∷ fs)
     → Alike (e ∷ es) (f ∷ fs) → e.octet ≡ f.octet → e.ticks < f.ticks → ⊥
 not_shorter e [] f fs lasts changes t alike o lt = omega arith
-not_shorter e (d ∷ ds) f fs lasts changes t alike o lt =
-    let long = lasts 1 (omega arith) in
-    let zero_in : e.ticks - e.ticks ≡ 0 = omega arith in
-    let next = yields_tail e (d ∷ ds) e.ticks (omega arith) ∙ ap (yields (d ∷ ds)) zero_in ∙ yields_head d ds 0 long in
-    changes 0 (omega arith) (o ∙ sym (sym next ∙ alike e.ticks (omega arith) ∙ yields_head f fs e.ticks lt))
+not_shorter e (d ∷ ds) f fs lasts changes t alike o lt = grind (arith, lasts 1, changes 0, alike e.ticks, yields_tail, yields_head)
 
 same_list : (es fs : List GateEntry) → Lasting es → Lasting fs → Changing es → Changing fs → total es ≡ total fs → Alike es fs → es ≡ fs
 same_list [] [] le lf ce cf t alike = refl

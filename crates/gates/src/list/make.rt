@@ -15,6 +15,7 @@ pub const MAX_ENTRIES: usize = 49;
 
 impl GateList {
     // Fills an empty table. It goes from change to change, so its cost does not grow with the cycle.
+    #[tactic(auto, using(crate::proofs::Edges::until_gt))]
     fn fill(mut entries: Vec<GateEntry>, plan: &CheckedPlan, port: usize) -> GateList
         requires { (entries.items ≡ []) × (MAX_ENTRIES ≤ vec_capacity entries) }
         ensures { Lists (checked_plan plan.now) port result }
@@ -29,6 +30,7 @@ impl GateList {
             if stretch.octet == octet {
                 continue;
             }
+            // No `try_from`: it is proved that a tick of the cycle fits, and there is no error to hand on.
             let ticks = (edge - begun) as u32;
             entries.push_reserved(GateEntry { octet, ticks });
             begun = edge;

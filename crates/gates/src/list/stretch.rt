@@ -42,7 +42,7 @@ impl Edges {
     fn of(window: Window, octets: u32, error: u32) -> Edges
         ensures guard { result.guard ≡ window.offset - 2 * error }
         ensures begin { result.begin ≡ window.offset }
-        ensures end { result.end ≡ window.offset + (octets + 20) + 2 * error }
+        ensures end { result.end ≡ window.offset + (octets + FRAME_OVERHEAD) + 2 * error }
     {
         let error = u64::from(error);
         let begin = u64::from(window.offset);
@@ -88,8 +88,8 @@ impl Stretch {
     }
 }
 
-#[tactic(auto, unfolding(crate::specs::Scan::stretch_after))]
 /// The stretch of a port from a tick on.
+#[tactic(auto, unfolding(crate::specs::Scan::stretch_after))]
 pub(crate) fn stretch_from(plan: &CheckedPlan, port: usize, tick: u64) -> Stretch
     ensures { result ≡ stretch_after (checked_plan plan.now) port tick }
 {

@@ -30,6 +30,7 @@ impl Rotation {
     }
 
     // The open ticks from a local tick on with a next list: those of the first list, of the hold, and of the next list.
+    // Tick, class and bound stay three parameters: each part asks from another tick and for fewer, so a struct would be made anew at each.
     fn open_across(&self, next: &Rotation, l: u64, class: u8, most: u64) -> u64
         ensures { Counts (octets_with self.now (Some next.now)) l class most result }
     {
@@ -52,8 +53,8 @@ impl Rotation {
 }
 
 impl Timetable {
-    #[tactic(auto, unfolding(crate::specs::Lookup::span_at))]
     /// The octet at a local tick, and the ticks from there to where another entry, the hold or the next list begins.
+    #[tactic(auto, unfolding(crate::specs::Lookup::span_at))]
     pub fn span(&self, l: u64) -> Span
         ensures is { result ≡ span_at self.now l }
         ensures stays { Stays (octets self.now) l result }
@@ -71,8 +72,8 @@ impl Timetable {
         self.span(l).octet
     }
 
-    #[tactic(auto, unfolding(crate::specs::Lookup::octets))]
     /// For how many ticks from a local tick on the gate of a class stays open, at most as many as asked.
+    #[tactic(auto, unfolding(crate::specs::Lookup::octets))]
     pub fn open_ticks(&self, l: u64, class: u8, most: u64) -> u64
         ensures { Counts (octets self.now) l class most result }
     {

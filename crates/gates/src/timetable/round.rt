@@ -13,8 +13,8 @@ impl Rotation {
         l.saturating_sub(self.base) % u64::from(self.list.cycle())
     }
 
-    #[tactic(auto, using(crate::proofs::Rounds::span_before, crate::proofs::Rounds::span_round))]
     /// The octet at a local tick, and the ticks from there to the end of its entry, or to the base.
+    #[tactic(auto, using(crate::proofs::Rounds::span_before, crate::proofs::Rounds::span_round))]
     pub(crate) fn span(&self, l: u64) -> Span
         ensures { result ≡ rotation_span self.now l }
     {

@@ -1,9 +1,7 @@
-use Rattle.std.proofs.Common.{ℕ, ◌-◌, ◌<◌, [], ◌∷◌, ◌++◌, vec_items, sym, ap, ◌∙◌, arith}
+use Rattle.std.proofs.Common.{ℕ, ◌-◌, [], ◌∷◌, ◌++◌, vec_items, sym, ap, ◌∙◌, arith}
 use Rattle.schedule.specs.Checks.{checked_plan}
-use Rattle.gates.specs.declared.list.stretch.Stretch.{Stretch}
 use Rattle.gates.specs.declared.entry.GateEntry.{GateEntry}
 use Rattle.gates.specs.Lists.{IsGateList}
-use Rattle.gates.proofs.Edges.{until_gt}
 use Rattle.gates.proofs.Running.{running_start, running_on, running_push, finished}
 use Rattle.gates.proofs.list.GateList.fill.Goals.{After-stretch_from-stretch-in-loop-stretch, After-push_reserved-2}
 use Rattle.gates.proofs.list.GateList.fill.Goals as goal
@@ -11,25 +9,12 @@ use Rattle.gates.proofs.list.GateList.fill.Goals as goal
 pub loop-stretch-init : goal.loop-stretch-init
 loop-stretch-init c = (running_start c.args.plan.now c.args.port (vec_items c.args.entries) c.requires.0 c.stretch_from-stretch.result c.stretch_from-stretch.ensures, c.requires.1)
 
--- the stretch that comes next lies further on
-further : (c : goal.After-stretch_from-stretch-in-loop-stretch) → c.loop-stretch.stretch.until < c.stretch_from-stretch-in-loop-stretch.result.until
-further c =
-    let e = ap (λ (s : Stretch). s.until) c.stretch_from-stretch-in-loop-stretch.ensures in
-    let gt = until_gt (checked_plan c.args.plan.now) c.args.port c.loop-stretch.stretch.until (omega arith) in
-    omega arith
-
-pub loop-stretch-smaller-then-stretch-octet : goal.loop-stretch-smaller-then-stretch-octet
-loop-stretch-smaller-then-stretch-octet c = let h = further (goal.at.loop-stretch-smaller-then-stretch-octet c).After-stretch_from-stretch-in-loop-stretch in omega arith
-
 pub loop-stretch-preserved-then-stretch-octet : goal.loop-stretch-preserved-then-stretch-octet
 loop-stretch-preserved-then-stretch-octet c = (
   running_on c.args.plan.now c.args.port (vec_items c.loop-stretch.entries) c.loop-stretch.begun c.loop-stretch.stretch c.loop-stretch.invariant.0
       (omega arith) c.stretch_from-stretch-in-loop-stretch.result c.stretch_from-stretch-in-loop-stretch.ensures c.if-stretch-octet.true,
   c.loop-stretch.invariant.1,
 )
-
-pub loop-stretch-smaller : goal.loop-stretch-smaller
-loop-stretch-smaller c = let h = further (goal.at.loop-stretch-smaller c).After-stretch_from-stretch-in-loop-stretch in omega arith
 
 pub loop-stretch-preserved : goal.loop-stretch-preserved
 loop-stretch-preserved c = (
