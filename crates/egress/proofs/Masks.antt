@@ -1,7 +1,16 @@
--- Class 7 is held back by no selection.
-use Rattle.std.proofs.Common.{◌≡◌, ℕ, ◌<◌, Some, None, Option, refl, ap, arith}
-use Rattle.egress.specs.Mask.{In, Within, Picks, SparesSeven}
-use Rattle.egress.specs.Masks.{by_class, in_below}
+-- The highest class of a set, and that class 7 is held back by no selection.
+use Rattle.std.proofs.Common.{◌≡◌, ℕ, suc, ◌-◌, ◌*◌, ◌^◌, ◌<◌, ◌≤◌, Some, None, Option, refl, sym, ap, ◌∙◌, pow-suc, arith}
+use Rattle.std.proofs.lemmas.Nat.{pow_pos}
+use Rattle.std.specs.Int.Count.{leading_unique}
+use Rattle.egress.specs.Mask.{In, highest, Within, Picks, SparesSeven}
+use Rattle.egress.specs.Masks.{by_class, in_below, highest_some}
+
+-- the power of two at the head of a set is its highest class
+pub highest_is : (m k : ℕ) → 2 ^ k ≤ m → m < 2 * 2 ^ k → k < 8 → Some k ≡ highest m
+highest_is m k p q b =
+    let s = pow-suc 2 k in
+    let l = leading_unique 8 m (7 - k) (suc k) (omega arith) (omega arith) (omega arith) in
+    sym (highest_some m (λ e. omega (arith, pow_pos k)) ∙ ap Some (omega arith))
 
 -- class 7 alone is available: any selection replies it
 only_seven : (c : ℕ) → c < 8 → In c 128 → c ≡ 7

@@ -4,7 +4,7 @@ ghost use Rattle.egress.specs.Mask.{SparesSeven, Within, Picks};
 
 pub trait Selection {
     // the classes that this kind may ever hold back
-    ghost may: { ℕ };
+    ghost MASK: { ℕ };
 
     // the classes held back now
     ghost held: { Self → ℕ };
@@ -15,11 +15,14 @@ pub trait Selection {
     // the state after a pass
     ghost passed: { Self → Option ℕ → ℕ → ℕ → Self };
 
-    // The same as `may`, for code.
+    // The same, for code.
     const MASK: u8;
 
     fn may_hold() -> u8
-        ensures { result ≡ may };
+        ensures { result ≡ MASK }
+    {
+        Self::MASK
+    }
 
     // The class that goes next of those available, or none.
     fn ask(&self, available: u8) -> Option<u8>
@@ -29,9 +32,9 @@ pub trait Selection {
     fn pass(&mut self, wire: Option<u8>, waiting: u8, gates: u8)
         ensures { self.new ≡ passed self.old wire waiting gates };
 
-    ghost spared: { SparesSeven may };
+    ghost spared: { SparesSeven MASK };
 
-    ghost within: { (s : Self) → Within (held s) may };
+    ghost within: { (s : Self) → Within (held s) MASK };
 
     ghost picks: { (s : Self) → Picks (held s) (pick s) };
 }

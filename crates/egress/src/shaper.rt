@@ -2,7 +2,7 @@
 ghost use Rattle.std.specs.Prelude.{◌≡◌, ℕ, ◌<◌, ℤ, pos, Option, int_lt, refl};
 ghost use Rattle.egress.specs.Mask.{has, sends, left, highest};
 ghost use Rattle.egress.specs.Credit.{credited, credit_of, held_back, passed_on};
-ghost use Rattle.egress.specs.Settings.{slope_fits, MadeShaper};
+ghost use Rattle.egress.specs.Settings.{MadeShaper};
 ghost use Rattle.egress.specs.Masks.{highest_picks, held_within};
 ghost use Rattle.std.proofs.Common.{lit<};
 
@@ -10,9 +10,6 @@ use crate::selection::Selection;
 use crate::setting::Refused;
 use crate::shaped::Shaped;
 use crate::strict::highest_class;
-
-// The greatest slope, in thousandths of the link.
-const MOST_SLOPE: u16 = 999;
 
 #[derive(Clone, Copy)]
 pub struct Shaper {
@@ -30,16 +27,7 @@ fn is_in(set: u8, class: u8) -> bool
 fn is_sent(wire: Option<u8>, class: u8) -> bool
     ensures { result ≡ sends wire class }
 {
-    match wire {
-        Some(c) => c == class,
-        None => false,
-    }
-}
-
-fn fits(slope: u16) -> bool
-    ensures { result ≡ slope_fits slope }
-{
-    0 < slope && slope <= MOST_SLOPE
+    wire == Some(class)
 }
 
 impl Shaper {
@@ -47,21 +35,9 @@ impl Shaper {
     pub fn new(six: u16, five: u16) -> Result<Shaper, Refused>
         ensures { MadeShaper six five result }
     {
-        if !fits(six) {
-            return Err(Refused::Slope {
-                class: 6,
-                slope: six,
-            });
-        }
-        if !fits(five) {
-            return Err(Refused::Slope {
-                class: 5,
-                slope: five,
-            });
-        }
         Ok(Shaper {
-            six: Shaped::new(six),
-            five: Shaped::new(five),
+            six: Shaped::new(6, six)?,
+            five: Shaped::new(5, five)?,
         })
     }
 
@@ -86,7 +62,7 @@ impl Shaper {
 }
 
 impl Selection for Shaper {
-    ghost may = { 96 };
+    ghost MASK = { 96 };
 
     ghost held = { held_back };
 
@@ -101,10 +77,6 @@ impl Selection for Shaper {
     ghost within = { λ s. held_within (int_lt s.six.credit (pos 0)) (int_lt s.five.credit (pos 0)) };
 
     ghost picks = { λ s. let h = held_back s in highest_picks h (λ a. highest (left a h)) (held_within (int_lt s.six.credit (pos 0)) (int_lt s.five.credit (pos 0))).mask (λ a l. refl) };
-
-    fn may_hold() -> u8 {
-        Self::MASK
-    }
 
     fn ask(&self, available: u8) -> Option<u8> {
         highest_class(available & !self.held())

@@ -9,22 +9,18 @@ use crate::clock::Clock;
 use crate::selection::Selection;
 
 // The laws of a waiting line hold, whatever waits in it.
-pub fn line_laws_stand<T>() -> u8
+pub fn line_laws_stand<T>()
     ensures { LineLaws T }
-{
-    0
-}
+{}
 
 // What a shaped class gains and spends, and the figures.
-pub fn shaper_figures_stand() -> u8
+pub fn shaper_figures_stand()
     ensures gains { Gains }
     ensures spends { Spends }
     ensures six { Quarter }
     ensures five { QuarterOfFive }
     ensures stops { Stops }
-{
-    0
-}
+{}
 
 // Asks any selection. Where class 7 alone is available, the reply is 7.
 fn asked<S: Selection>(selection: &S, available: u8) -> Option<u8>
@@ -54,7 +50,7 @@ pub fn ask_and_pass<S: Selection>(
 ) -> Option<u8>
     ensures reply { result ≡ S.Selection.pick selection.old available }
     ensures after { selection.new ≡ S.Selection.passed selection.old result waiting gates }
-    ensures within { Within (S.Selection.held selection.new) S.Selection.may }
+    ensures within { Within (S.Selection.held selection.new) S.Selection.MASK }
 {
     let class = selection.ask(available);
     selection.pass(class, waiting, gates);

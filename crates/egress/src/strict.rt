@@ -10,17 +10,15 @@ use crate::selection::Selection;
 pub struct StrictPriority;
 
 // The highest class of a set.
+#[tactic(auto, using(crate::proofs::Masks::highest_is))]
 pub(crate) fn highest_class(classes: u8) -> Option<u8>
     ensures { result ≡ highest classes }
 {
-    if classes == 0 {
-        return None;
-    }
-    Some((7 - classes.leading_zeros()) as u8)
+    Some(classes.checked_ilog2()? as u8)
 }
 
 impl Selection for StrictPriority {
-    ghost may = { 0 };
+    ghost MASK = { 0 };
 
     ghost held = { λ _. 0 };
 
@@ -35,10 +33,6 @@ impl Selection for StrictPriority {
     ghost within = { λ _. none_within };
 
     ghost picks = { λ s. highest_picks 0 highest (lit< tt) (λ a l. ap highest (sym (left_none a l))) };
-
-    fn may_hold() -> u8 {
-        Self::MASK
-    }
 
     fn ask(&self, available: u8) -> Option<u8> {
         highest_class(available)

@@ -1,10 +1,16 @@
-ghost use Rattle.std.specs.Prelude.{◌≡◌, ℕ, ◌<◌, ◌≤◌, Bool, ℤ, pos, negsuc, ◌≤ℤ◌, int_lt};
+ghost use Rattle.std.specs.Prelude.{◌≡◌, ℕ, ◌<◌, ◌≤◌, Bool, true, false, ℤ, pos, negsuc, ◌≤ℤ◌, IfOk, IfErr, int_lt};
+ghost use Rattle.egress.specs.declared.setting.Refused.TheVariants.{Slope};
 ghost use Rattle.egress.specs.Credit.{stopped, credited, turned};
+ghost use Rattle.egress.specs.Settings.{slope_fits};
 
 use super::Shaped;
+use crate::setting::Refused;
+
+// The greatest slope, in thousandths of the link.
+const MOST_SLOPE: u16 = 999;
 
 // A credit stops here, and at the same below 0.
-const MOST: i32 = 2_000_000;
+const MOST_CREDIT: i32 = 2_000_000;
 
 // What a class on the wire loses at each tick, in thousandths: the whole link.
 const LINK: i32 = 1000;
@@ -12,39 +18,19 @@ const LINK: i32 = 1000;
 fn stop(credit: i32) -> i32
     ensures { result ≡ stopped credit }
 {
-    if credit > MOST {
-        MOST
-    } else if credit < -MOST {
-        -MOST
-    } else {
-        credit
-    }
-}
-
-// The credit after a pass.
-fn next(credit: i32, slope: u16, wire: bool, waits: bool, gate: bool) -> i32
-    requires { (slope < 1000) × (negsuc 1999999 ≤ℤ credit) × (credit ≤ℤ pos 2000000) }
-    ensures { result ≡ credited credit slope wire waits gate }
-{
-    let slope = i32::from(slope);
-    if wire {
-        stop(credit + slope - LINK)
-    } else if !waits {
-        0
-    } else if !gate {
-        credit
-    } else {
-        stop(credit + slope)
-    }
+    credit.clamp(-MOST_CREDIT, MOST_CREDIT)
 }
 
 impl Shaped {
     // A class with nothing to its credit.
-    pub(crate) fn new(slope: u16) -> Shaped
-        requires { (0 < slope) × (slope < 1000) }
-        ensures { (result.slope ≡ slope) × (result.credit ≡ pos 0) }
+    pub(crate) fn new(class: u8, slope: u16) -> Result<Shaped, Refused>
+        ensures made { IfOk result (λ s. (slope_fits slope ≡ true) × (s.slope ≡ slope) × (s.credit ≡ pos 0)) }
+        ensures refused { IfErr result (λ e. (slope_fits slope ≡ false) × (e ≡ Slope class slope)) }
     {
-        Shaped { slope, credit: 0 }
+        if !(1..=MOST_SLOPE).contains(&slope) {
+            return Err(Refused::Slope { class, slope });
+        }
+        Ok(Shaped { slope, credit: 0 })
     }
 
     pub(crate) fn credit(&self) -> i32
@@ -60,9 +46,24 @@ impl Shaped {
         self.credit < 0
     }
 
+    fn next_credit(&self, wire: bool, waits: bool, gate: bool) -> i32
+        ensures { result ≡ credited self.now.credit self.now.slope wire waits gate }
+    {
+        let slope = i32::from(self.slope);
+        if wire {
+            stop(self.credit + slope - LINK)
+        } else if !waits {
+            0
+        } else if !gate {
+            self.credit
+        } else {
+            stop(self.credit + slope)
+        }
+    }
+
     pub(crate) fn pass(&mut self, wire: bool, waits: bool, gate: bool)
         ensures { self.new ≡ turned self.old wire waits gate }
     {
-        self.credit = next(self.credit, self.slope, wire, waits, gate);
+        self.credit = self.next_credit(wire, waits, gate);
     }
 }

@@ -15,10 +15,11 @@ impl Shifted {
     pub fn new(by: i16) -> Result<Shifted, Refused>
         ensures { MadeShifted by result }
     {
-        if by < -MOST_SHIFT || by > MOST_SHIFT {
-            return Err(Refused::Shift(by));
+        if (-MOST_SHIFT..=MOST_SHIFT).contains(&by) {
+            Ok(Shifted { by })
+        } else {
+            Err(Refused::Shift(by))
         }
-        Ok(Shifted { by })
     }
 }
 
@@ -30,13 +31,7 @@ impl Clock for Shifted {
     ghost near = { λ c. moved_near c.by };
 
     fn read(&self, t: u64) -> u64 {
-        let t = up_to_horizon(t);
-        let n = self.error_bound();
-        if self.by < 0 {
-            t.saturating_sub(n)
-        } else {
-            t + n
-        }
+        up_to_horizon(t).saturating_add_signed(i64::from(self.by))
     }
 
     fn error_bound(&self) -> u64 {

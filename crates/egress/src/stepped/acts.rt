@@ -19,7 +19,7 @@ impl Stepped {
         if margin > MOST_MARGIN {
             return Err(Refused::Margin(margin));
         }
-        if period == 0 || period > MOST_PERIOD {
+        if !(1..=MOST_PERIOD).contains(&period) {
             return Err(Refused::Period(period));
         }
         Ok(Stepped { margin, period })
