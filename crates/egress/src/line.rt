@@ -49,7 +49,7 @@ impl Line {
     }
 
     // Puts `entry` last. A full line refuses and stays as it was.
-    #[tactic(auto, using(crate::proofs::Rings::push_room, crate::proofs::Rings::push_full))]
+    #[tactic(auto, using(crate::proofs::Rings::length_waits, crate::proofs::Rings::more_waits))]
     pub fn push<T: Copy>(&mut self, slots: &mut [T], entry: T) -> Result<(), Full>
         ensures reply { is_ok result ≡ nat_lt (length (waits slots.old self.old)) (length slots.old) }
         ensures waiting { waits slots.new self.new ≡ joined (length slots.old) entry (waits slots.old self.old) }
