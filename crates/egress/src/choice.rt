@@ -12,10 +12,10 @@ use crate::shifted::Shifted;
 use crate::stepped::Stepped;
 use crate::strict::StrictPriority;
 
-// What a port selects by: strict priority or the shaper.
+/// What a port selects by: strict priority or the shaper.
 pub type StrictOrShaper = Choice<StrictPriority, Shaper>;
 
-// What a port reads: a clock of any of the three kinds.
+/// What a port reads: a clock of any of the three kinds.
 pub type AnyClock = Choice<Exact, Choice<Shifted, Stepped>>;
 
 #[derive(Clone, Copy, Drop)]

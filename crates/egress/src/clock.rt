@@ -31,7 +31,7 @@ pub(crate) fn up_to_horizon(t: u64) -> u64
     t.min(HORIZON)
 }
 
-// Reads the true tick.
+/// Reads the true tick.
 #[derive(Clone, Copy)]
 pub struct Exact;
 

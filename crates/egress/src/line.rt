@@ -2,14 +2,14 @@
 ghost use Rattle.std.specs.Prelude.{◌≡◌, ℕ, ◌+◌, ◌-◌, ◌<◌, ◌≤◌, length, is_ok, Some, None, nat_lt};
 ghost use Rattle.egress.specs.Waiting.{empty_line, begins, number, round, waits, front, rest, joined, stored, longer, shorter};
 
-// Where the first entry stands and how many wait. The entries themselves stand in the slots.
+/// Where the first entry stands and how many wait. The entries themselves stand in the slots.
 #[derive(Clone, Copy)]
 pub struct Line {
     head: usize,
     count: usize,
 }
 
-// Every slot is taken.
+/// Every slot is taken.
 #[derive(Clone, Copy, Debug)]
 pub struct Full;
 
@@ -26,7 +26,7 @@ fn slot_after(head: usize, k: usize, room: usize) -> usize
 }
 
 impl Line {
-    // A line in which nothing waits, over whatever slots.
+    /// A line in which nothing waits, over whatever slots.
     pub fn new() -> Line
         ensures { result ≡ empty_line }
     {
@@ -39,7 +39,7 @@ impl Line {
         if self.head < room { self.head } else { 0 }
     }
 
-    // How many wait.
+    /// How many wait.
     #[tactic(auto, using(crate::proofs::Rings::length_waits))]
     pub fn len<T>(&self, slots: &[T]) -> usize
         ensures number { result ≡ number (length slots.now) self.now }
@@ -48,7 +48,7 @@ impl Line {
         self.count.min(slots.len())
     }
 
-    // Puts `entry` last. A full line refuses and stays as it was.
+    /// Puts `entry` last. A full line refuses and stays as it was.
     #[tactic(auto, using(crate::proofs::Rings::length_waits, crate::proofs::Rings::more_waits))]
     pub fn push<T: Copy>(&mut self, slots: &mut [T], entry: T) -> Result<(), Full>
         ensures reply { is_ok result ≡ nat_lt (length (waits slots.old self.old)) (length slots.old) }
@@ -71,7 +71,7 @@ impl Line {
         }
     }
 
-    // The first of those that wait.
+    /// The first of those that wait.
     pub fn first<T: Copy>(&self, slots: &[T]) -> Option<T>
         ensures { result ≡ front (waits slots.now self.now) }
     {
@@ -79,7 +79,7 @@ impl Line {
         ahead.take(slots)
     }
 
-    // Takes the first of those that wait.
+    /// Takes the first of those that wait.
     #[tactic(auto, using(crate::proofs::Rings::none_waits, crate::proofs::Rings::first_waits, crate::proofs::Rings::less_waits))]
     pub fn take<T: Copy>(&mut self, slots: &[T]) -> Option<T>
         ensures reply { result ≡ front (waits slots.now self.old) }

@@ -6,7 +6,7 @@ use crate::queue::{Entry, Queue};
 // How many frames of an ordinary class can wait at a port.
 const FRAME_ROOM: usize = 8;
 
-// An ordinary frame: its octets, and a label that its sender gave it.
+/// An ordinary frame: its octets, and a label that its sender gave it.
 #[derive(Clone, Copy, PartialEq, Debug)]
 pub struct Frame {
     pub octets: u16,

@@ -5,7 +5,7 @@ ghost use Rattle.egress.specs.Waiting.{empty_line, front, rest, joined, stored, 
 
 use crate::line::{Full, Line};
 
-// What can wait in a queue.
+/// What can wait in a queue.
 pub trait Entry: Copy {
     // what stands in a slot before any entry does
     ghost BLANK: { Self };
@@ -13,7 +13,7 @@ pub trait Entry: Copy {
     const BLANK: Self;
 }
 
-// Room for N entries, and the line of those that wait.
+/// Room for N entries, and the line of those that wait.
 #[derive(Clone, Copy)]
 pub struct Queue<T, const N: usize> {
     slots: [T; N],
@@ -21,7 +21,7 @@ pub struct Queue<T, const N: usize> {
 }
 
 impl<T: Entry, const N: usize> Queue<T, N> {
-    // A queue in which nothing waits.
+    /// A queue in which nothing waits.
     #[tactic(auto, using(crate::proofs::Rings::none_waits))]
     pub fn new() -> Queue<T, N>
         ensures waiting { queued result ≡ [] }
@@ -33,14 +33,14 @@ impl<T: Entry, const N: usize> Queue<T, N> {
         }
     }
 
-    // How many wait.
+    /// How many wait.
     pub fn len(&self) -> usize
         ensures { result ≡ length (queued self.now) }
     {
         self.line.len(&self.slots)
     }
 
-    // Puts one last. A full queue refuses and stays as it was.
+    /// Puts one last. A full queue refuses and stays as it was.
     pub fn push(&mut self, entry: T) -> Result<(), Full>
         ensures reply { is_ok result ≡ nat_lt (length (queued self.old)) N }
         ensures waiting { queued self.new ≡ joined N entry (queued self.old) }
@@ -49,14 +49,14 @@ impl<T: Entry, const N: usize> Queue<T, N> {
         self.line.push(&mut self.slots, entry)
     }
 
-    // The first of those that wait.
+    /// The first of those that wait.
     pub fn first(&self) -> Option<T>
         ensures { result ≡ front (queued self.now) }
     {
         self.line.first(&self.slots)
     }
 
-    // Takes the first of those that wait.
+    /// Takes the first of those that wait.
     pub fn take(&mut self) -> Option<T>
         ensures reply { result ≡ front (queued self.old) }
         ensures waiting { queued self.new ≡ rest (queued self.old) }

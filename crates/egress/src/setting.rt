@@ -2,7 +2,7 @@
 ghost use Rattle.std.specs.Prelude.{◌≡◌, ℕ};
 ghost use Rattle.egress.specs.Settings.{refusal_number};
 
-// The setting that lies beyond its limits.
+/// The setting that lies beyond its limits.
 #[derive(Clone, Copy, PartialEq, Debug)]
 pub enum Refused {
     // The slope of a shaped class: 1 to 999 thousandths of the link.

@@ -3,7 +3,7 @@ ghost use Rattle.std.specs.Prelude.{◌<◌, pos, negsuc, ◌≤ℤ◌};
 
 pub mod acts;
 
-// The slope is the class's part of the link, in thousandths; the credit gains it at each tick that the class waits.
+/// The slope is the class's part of the link, in thousandths; the credit gains it at each tick that the class waits.
 #[derive(Clone, Copy)]
 pub struct Shaped {
     slope: u16,

@@ -31,7 +31,7 @@ fn is_sent(wire: Option<u8>, class: u8) -> bool
 }
 
 impl Shaper {
-    // A shaper with these slopes for classes 6 and 5, each 1 to 999, and no credit.
+    /// A shaper with these slopes for classes 6 and 5, each 1 to 999, and no credit.
     pub fn new(six: u16, five: u16) -> Result<Shaper, Refused>
         ensures { MadeShaper six five result }
     {
@@ -41,7 +41,7 @@ impl Shaper {
         })
     }
 
-    // The credit of a class, if it is a shaped one.
+    /// The credit of a class, if it is a shaped one.
     pub fn credit(&self, class: u8) -> Option<i32>
         ensures { result ≡ credit_of self.now class }
     {

@@ -8,12 +8,12 @@ ghost use Rattle.egress.specs.Times.{apart};
 use crate::clock::Clock;
 use crate::selection::Selection;
 
-// The laws of a waiting line hold, whatever waits in it.
+/// The laws of a waiting line hold, whatever waits in it.
 pub fn line_laws_stand<T>()
     ensures { LineLaws T }
 {}
 
-// What a shaped class gains and spends, and the figures.
+/// What a shaped class gains and spends, and the figures.
 pub fn shaper_figures_stand()
     ensures gains { Gains }
     ensures spends { Spends }
@@ -30,7 +30,7 @@ fn asked<S: Selection>(selection: &S, available: u8) -> Option<u8>
     selection.ask(available)
 }
 
-// Asks any selection twice. It gives one answer, and where class 7 alone is available that is 7.
+/// Asks any selection twice. It gives one answer, and where class 7 alone is available that is 7.
 pub fn ask_twice<S: Selection>(selection: &S, available: u8) -> (Option<u8>, Option<u8>)
     ensures reply { result.0 ≡ S.Selection.pick selection.now available }
     ensures again { result.1 ≡ result.0 }
@@ -41,7 +41,7 @@ pub fn ask_twice<S: Selection>(selection: &S, available: u8) -> (Option<u8>, Opt
     (first, second)
 }
 
-// Asks any selection, and lets a tick go by with the class that it replied on the wire.
+/// Asks any selection, and lets a tick go by with the class that it replied on the wire.
 pub fn ask_and_pass<S: Selection>(
     selection: &mut S,
     available: u8,
@@ -57,7 +57,7 @@ pub fn ask_and_pass<S: Selection>(
     class
 }
 
-// How far any clock is off at the true tick t: at most its bound, from that bound up to 2^48.
+/// How far any clock is off at the true tick t: at most its bound, from that bound up to 2^48.
 pub fn error_at<K: Clock>(clock: &K, t: u64) -> u64
     ensures off { result ≡ apart t (K.Clock.reading clock.now t) }
     ensures near { K.Clock.bound clock.now ≤ t → t ≤ 2 ^ 48 → result ≤ K.Clock.bound clock.now }

@@ -3,7 +3,7 @@ ghost use Rattle.std.specs.Prelude.{◌<◌, ◌≤◌};
 
 pub mod acts;
 
-// The reading is at most the margin off, and takes a step once a period.
+/// The reading is at most the margin off, and takes a step once a period.
 #[derive(Clone, Copy)]
 pub struct Stepped {
     margin: u16,

@@ -11,7 +11,7 @@ use crate::setting::Refused;
 const MOST_SHIFT: i16 = 125;
 
 impl Shifted {
-    // A clock that is ahead by −125 to 125 ticks.
+    /// A clock that is ahead by −125 to 125 ticks.
     pub fn new(by: i16) -> Result<Shifted, Refused>
         ensures { MadeShifted by result }
     {

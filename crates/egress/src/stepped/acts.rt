@@ -12,7 +12,7 @@ const MOST_MARGIN: u16 = 125;
 const MOST_PERIOD: u32 = 65_535;
 
 impl Stepped {
-    // A clock with a margin of 0 to 125 ticks and a period of 1 to 65,535.
+    /// A clock with a margin of 0 to 125 ticks and a period of 1 to 65,535.
     pub fn new(margin: u16, period: u32) -> Result<Stepped, Refused>
         ensures { MadeStepped margin period result }
     {
