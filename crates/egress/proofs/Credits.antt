@@ -7,7 +7,7 @@ use Rattle.egress.specs.declared.shaped.Shaped.{Shaped}
 use Rattle.egress.specs.declared.shaper.Shaper.{Shaper}
 use Rattle.egress.specs.Credit.{Limited, stopped, turned, held_back, passed_on}
 use Rattle.egress.specs.Mask.{In, has, sends}
-use Rattle.egress.specs.Figures.{turns, passes, Gains, Spends, Quarter, QuarterOfFive}
+use Rattle.egress.specs.Figures.{turns, passes, Gains, Spends, QuarterOf, Quarter, QuarterOfFive}
 
 pub stopped_same : (z : ℤ) → Limited z → stopped z ≡ z
 stopped_same z h = grind (arith, ints)
@@ -110,10 +110,7 @@ module _ (k : ℕ) (class : Shaper → Shaped)
       ∙ ap (λ b. turns n false b (has gates k) (turns 100 true (has waiting k) (has gates k) (class s))) (eq-eqb ((waiting / 2 ^ k) % 2) 1 w)
       ∙ ap (λ b. turns n false true b (turns 100 true (has waiting k) (has gates k) (class s))) (eq-eqb ((gates / 2 ^ k) % 2) 1 g)
 
-  own_quarter : (s : Shaper) (waiting gates : ℕ) → (class s).slope ≡ 250 → (class s).credit ≡ pos 0 → In k waiting → In k gates →
-      ((class (passes 100 (Some k) waiting gates s)).credit ≡ negsuc 74999)
-      × In k (held_back (passes 299 None waiting gates (passes 100 (Some k) waiting gates s)))
-      × (In k (held_back (passes 300 None waiting gates (passes 100 (Some k) waiting gates s))) → ⊥)
+  own_quarter : QuarterOf k class
   own_quarter s waiting gates slope credit w g =
       let o = owing (class s) slope credit (has waiting k) (has gates k) in
       let sent = passes 100 (Some k) waiting gates s in (

@@ -18,6 +18,8 @@ pub type StrictOrShaper = Choice<StrictPriority, Shaper>;
 /// What a port reads: a clock of any of the three kinds.
 pub type AnyClock = Choice<Exact, Choice<Shifted, Stepped>>;
 
+// An enum of its own: no `Result`, since neither kind is a failure, and no `dyn`, since a port has no heap.
+/// Either of two kinds.
 #[derive(Clone, Copy, Drop)]
 pub enum Choice<A, B> {
     First(A),

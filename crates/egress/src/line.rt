@@ -1,4 +1,5 @@
 // A waiting line, first in first out: a ring over slots that the caller lends, so that taking the first costs the same however many wait.
+// No `VecDeque`: a port has no heap, and the slots may as well be an array as part of a `Vec`.
 ghost use Rattle.std.specs.Prelude.{◌≡◌, ℕ, ◌+◌, ◌-◌, ◌<◌, ◌≤◌, length, is_ok, Some, None, nat_lt};
 ghost use Rattle.egress.specs.Waiting.{empty_line, begins, number, round, waits, front, rest, joined, stored, longer, shorter};
 
@@ -13,7 +14,7 @@ pub struct Line {
 #[derive(Clone, Copy, Debug)]
 pub struct Full;
 
-// The slot k after `head`, going on at slot 0 after the last.
+// The slot k after `head`, going on at slot 0 after the last. No `%`: `head + k` may be beyond a usize, where entries have no size.
 fn slot_after(head: usize, k: usize, room: usize) -> usize
     requires { (head < room) × (k ≤ room) }
     ensures { (result ≡ round room head k) × (result < room) }
@@ -33,6 +34,7 @@ impl Line {
         Line { head: 0, count: 0 }
     }
 
+    // The slot of the first entry.
     fn start(&self, room: usize) -> usize
         ensures { result ≡ begins room self.now }
     {

@@ -13,6 +13,7 @@ pub struct Frame {
     pub label: u16,
 }
 
+/// A line of frames.
 pub type FrameLine = Queue<Frame, FRAME_ROOM>;
 
 impl Entry for Frame {

@@ -10,9 +10,11 @@ pub trait Entry: Copy {
     // what stands in a slot before any entry does
     ghost BLANK: { Self };
 
+    /// The same, for code.
     const BLANK: Self;
 }
 
+// No `impl Model`: the contracts say what the slots hold too, and not only what waits.
 /// Room for N entries, and the line of those that wait.
 #[derive(Clone, Copy)]
 pub struct Queue<T, const N: usize> {

@@ -6,6 +6,7 @@ use crate::queue::{Entry, Queue};
 // How many scheduled frames can wait at a port.
 const FLOW_ROOM: usize = 16;
 
+/// A line of flow numbers.
 pub type FlowLine = Queue<u8, FLOW_ROOM>;
 
 impl Entry for u8 {

@@ -11,12 +11,15 @@ use crate::setting::Refused;
 use crate::shaped::Shaped;
 use crate::strict::highest_class;
 
+// Two fields and no array: contracts and callers name the two classes.
+/// The two shaped classes.
 #[derive(Clone, Copy)]
 pub struct Shaper {
     six: Shaped,
     five: Shaped,
 }
 
+// Whether a class is in a set.
 fn is_in(set: u8, class: u8) -> bool
     requires { class < 8 }
     ensures { result ≡ has set class }
@@ -24,6 +27,7 @@ fn is_in(set: u8, class: u8) -> bool
     (set >> class) % 2 == 1
 }
 
+// Whether a class is the one on the wire.
 fn is_sent(wire: Option<u8>, class: u8) -> bool
     ensures { result ≡ sends wire class }
 {

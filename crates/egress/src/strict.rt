@@ -6,6 +6,7 @@ ghost use Rattle.egress.specs.Masks.{highest_picks, left_none, none_within};
 
 use crate::selection::Selection;
 
+/// Replies the highest available class, and has no state.
 #[derive(Clone, Copy)]
 pub struct StrictPriority;
 
