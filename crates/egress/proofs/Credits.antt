@@ -1,36 +1,22 @@
 -- Runs of passes alike.
-use Rattle.std.proofs.Common.{◌≡◌, ℕ, zero, suc, ◌+◌, ◌-◌, ◌*◌, ◌/◌, ◌%◌, ◌^◌, ◌<◌, Bool, true, false, cond, ℤ, pos, negsuc, ◌+ℤ◌, ◌-ℤ◌, ◌≤ℤ◌, Some, None, Option, sym, refl, ap, ◌∙◌, suc-mul, zero-mul, arith}
+use Rattle.std.proofs.Common.{◌≡◌, ℕ, zero, suc, ◌+◌, ◌-◌, ◌*◌, ◌/◌, ◌%◌, ◌^◌, ◌<◌, Bool, true, false, cond, ℤ, pos, negsuc, ◌+ℤ◌, ◌-ℤ◌, Some, None, Option, sym, refl, ap, ◌∙◌, suc-mul, zero-mul, arith}
 use lib.Signed.{lt_z}
-use Rattle.std.proofs.lemmas.Int.{ints, by_lt_z}
+use Rattle.std.proofs.lemmas.Int.{ints}
 use Rattle.std.proofs.lemmas.Bool.{eq-eqb, both_ways}
 use Rattle.egress.specs.declared.shaped.Shaped.{Shaped}
 use Rattle.egress.specs.declared.shaper.Shaper.{Shaper}
-use Rattle.egress.specs.Credit.{Limited, stopped, turned}
+use Rattle.egress.specs.Credit.{Limited, stopped, turned, held_back, passed_on}
 use Rattle.egress.specs.Mask.{In, has, sends}
-use Rattle.egress.specs.Figures.{turns, passes, Gains, Spends, Quarter, QuarterOfFive}
-
-pub stopped_high : (z : ℤ) → pos 2000000 ≤ℤ z → stopped z ≡ pos 2000000
-stopped_high z h = grind (arith, ints)
-
-pub stopped_low : (z : ℤ) → z ≤ℤ negsuc 1999999 → stopped z ≡ negsuc 1999999
-stopped_low z h = grind (arith, ints)
+use Rattle.egress.specs.Figures.{turns, passes, Gains, Spends, QuarterOf, Quarter, QuarterOfFive}
 
 pub stopped_same : (z : ℤ) → Limited z → stopped z ≡ z
 stopped_same z h = grind (arith, ints)
 
 stop_gain : (z : ℤ) (a b : ℕ) → Limited z → stopped (stopped (z +ℤ pos a) +ℤ pos b) ≡ stopped (z +ℤ pos (a + b))
-stop_gain z a b h = by_lt_z (pos 2000000) (z +ℤ pos a)
-    (λ l. let u : pos 2000000 ≤ℤ (z +ℤ pos a) = omega (arith, ints) in let v : pos 2000000 ≤ℤ (z +ℤ pos (a + b)) = omega (arith, ints) in
-    ap (λ y. stopped (y +ℤ pos b)) (stopped_high (z +ℤ pos a) u) ∙ stopped_high (pos 2000000 +ℤ pos b) (omega (arith, ints)) ∙ sym (stopped_high (z +ℤ pos (a + b)) v))
-    (λ l. let e : z +ℤ pos a +ℤ pos b ≡ z +ℤ pos (a + b) = omega (arith, ints) in
-    ap (λ y. stopped (y +ℤ pos b)) (stopped_same (z +ℤ pos a) (omega (arith, ints), l)) ∙ ap stopped e)
+stop_gain z a b h = grind (arith, ints)
 
 stop_spend : (z : ℤ) (a s : ℕ) → s < 1000 → Limited z → stopped (stopped (z -ℤ pos a) +ℤ pos s +ℤ negsuc 999) ≡ stopped (z -ℤ pos (a + (1000 - s)))
-stop_spend z a s p h = by_lt_z (z -ℤ pos a) (negsuc 1999999)
-    (λ l. let u : (z -ℤ pos a) ≤ℤ negsuc 1999999 = omega (arith, ints) in let v : (z -ℤ pos (a + (1000 - s))) ≤ℤ negsuc 1999999 = omega (arith, ints) in
-    ap (λ y. stopped (y +ℤ pos s +ℤ negsuc 999)) (stopped_low (z -ℤ pos a) u) ∙ stopped_low (negsuc 1999999 +ℤ pos s +ℤ negsuc 999) (omega (arith, ints)) ∙ sym (stopped_low (z -ℤ pos (a + (1000 - s))) v))
-    (λ l. let e : z -ℤ pos a +ℤ pos s +ℤ negsuc 999 ≡ z -ℤ pos (a + (1000 - s)) = omega (arith, ints) in
-    ap (λ y. stopped (y +ℤ pos s +ℤ negsuc 999)) (stopped_same (z -ℤ pos a) (l, omega (arith, ints))) ∙ ap stopped e)
+stop_spend z a s p h = grind (arith, ints)
 
 pub turns_slope : (n : ℕ) (wire waits gate : Bool) (s : Shaped) → (turns n wire waits gate s).slope ≡ s.slope
 unfolding turns
@@ -81,34 +67,6 @@ module _ (s : Shaped) (slope : s.slope ≡ 250) (credit : s.credit ≡ pos 0) wh
   pub owing : (waits gate : Bool) → ((turns 100 true waits gate s).credit ≡ negsuc 74999) × ((turns 299 false true true (turns 100 true waits gate s)).credit ≡ negsuc 249) × ((turns 300 false true true (turns 100 true waits gate s)).credit ≡ pos 0)
   owing waits gate = (sent waits gate, then 299 waits gate, then 300 waits gate)
 
--- a class of a shaper makes its own turns
-six_turns : (n : ℕ) (wire : Option ℕ) (waiting gates : ℕ) (s : Shaper) → (passes n wire waiting gates s).six ≡ turns n (sends wire 6) (has waiting 6) (has gates 6) s.six
-unfolding turns passes
-six_turns zero wire waiting gates s = refl
-six_turns (suc n) wire waiting gates s = ap (λ t. turned t (sends wire 6) (has waiting 6) (has gates 6)) (six_turns n wire waiting gates s)
-
-five_turns : (n : ℕ) (wire : Option ℕ) (waiting gates : ℕ) (s : Shaper) → (passes n wire waiting gates s).five ≡ turns n (sends wire 5) (has waiting 5) (has gates 5) s.five
-unfolding turns passes
-five_turns zero wire waiting gates s = refl
-five_turns (suc n) wire waiting gates s = ap (λ t. turned t (sends wire 5) (has waiting 5) (has gates 5)) (five_turns n wire waiting gates s)
-
--- n more ticks of waiting after 100 on the wire
-six_waits : (n : ℕ) (waiting gates : ℕ) (s : Shaper) → In 6 waiting → In 6 gates →
-    (passes n None waiting gates (passes 100 (Some 6) waiting gates s)).six ≡ turns n false true true (turns 100 true (has waiting 6) (has gates 6) s.six)
-six_waits n waiting gates s w g =
-    six_turns n None waiting gates (passes 100 (Some 6) waiting gates s)
-    ∙ ap (turns n false (has waiting 6) (has gates 6)) (six_turns 100 (Some 6) waiting gates s)
-    ∙ ap (λ b. turns n false b (has gates 6) (turns 100 true (has waiting 6) (has gates 6) s.six)) (eq-eqb ((waiting / 2 ^ 6) % 2) 1 w)
-    ∙ ap (λ b. turns n false true b (turns 100 true (has waiting 6) (has gates 6) s.six)) (eq-eqb ((gates / 2 ^ 6) % 2) 1 g)
-
-five_waits : (n : ℕ) (waiting gates : ℕ) (s : Shaper) → In 5 waiting → In 5 gates →
-    (passes n None waiting gates (passes 100 (Some 5) waiting gates s)).five ≡ turns n false true true (turns 100 true (has waiting 5) (has gates 5) s.five)
-five_waits n waiting gates s w g =
-    five_turns n None waiting gates (passes 100 (Some 5) waiting gates s)
-    ∙ ap (turns n false (has waiting 5) (has gates 5)) (five_turns 100 (Some 5) waiting gates s)
-    ∙ ap (λ b. turns n false b (has gates 5) (turns 100 true (has waiting 5) (has gates 5) s.five)) (eq-eqb ((waiting / 2 ^ 5) % 2) 1 w)
-    ∙ ap (λ b. turns n false true b (turns 100 true (has waiting 5) (has gates 5) s.five)) (eq-eqb ((gates / 2 ^ 5) % 2) 1 g)
-
 -- class 6 and class 5 among those held back
 six_held : (x y : Bool) → x ≡ true → In 6 (cond x 64 0 + cond y 32 0)
 six_held true true e = refl
@@ -130,22 +88,39 @@ five_free x true e h = both_ways true e refl
 five_free true false e h = omega arith
 five_free false false e h = omega arith
 
+-- one of the shaped classes: each turns by itself, and is held back exactly while it is in debt
+module _ (k : ℕ) (class : Shaper → Shaped)
+    (own : (s : Shaper) (wire : Option ℕ) (waiting gates : ℕ) → class (passed_on s wire waiting gates) ≡ turned (class s) (sends wire k) (has waiting k) (has gates k))
+    (held : (s : Shaper) → lt_z (class s).credit (pos 0) ≡ true → In k (held_back s))
+    (free : (s : Shaper) → lt_z (class s).credit (pos 0) ≡ false → In k (held_back s) → ⊥) where
+  own_turns : (n : ℕ) (wire : Option ℕ) (waiting gates : ℕ) (s : Shaper) → class (passes n wire waiting gates s) ≡ turns n (sends wire k) (has waiting k) (has gates k) (class s)
+  unfolding turns passes
+  own_turns zero wire waiting gates s = refl
+  own_turns (suc n) wire waiting gates s = own (passes n wire waiting gates s) wire waiting gates ∙ ap (λ t. turned t (sends wire k) (has waiting k) (has gates k)) (own_turns n wire waiting gates s)
+
+  own_sends : (n : ℕ) (waiting gates : ℕ) (s : Shaper) → class (passes n (Some k) waiting gates s) ≡ turns n true (has waiting k) (has gates k) (class s)
+  own_sends n waiting gates s = own_turns n (Some k) waiting gates s ∙ ap (λ b. turns n b (has waiting k) (has gates k) (class s)) (eq-eqb k k refl)
+
+  -- n more ticks of waiting after 100 on the wire
+  own_waits : (n : ℕ) (waiting gates : ℕ) (s : Shaper) → In k waiting → In k gates →
+      class (passes n None waiting gates (passes 100 (Some k) waiting gates s)) ≡ turns n false true true (turns 100 true (has waiting k) (has gates k) (class s))
+  own_waits n waiting gates s w g =
+      own_turns n None waiting gates (passes 100 (Some k) waiting gates s)
+      ∙ ap (turns n false (has waiting k) (has gates k)) (own_sends 100 waiting gates s)
+      ∙ ap (λ b. turns n false b (has gates k) (turns 100 true (has waiting k) (has gates k) (class s))) (eq-eqb ((waiting / 2 ^ k) % 2) 1 w)
+      ∙ ap (λ b. turns n false true b (turns 100 true (has waiting k) (has gates k) (class s))) (eq-eqb ((gates / 2 ^ k) % 2) 1 g)
+
+  own_quarter : QuarterOf k class
+  own_quarter s waiting gates slope credit w g =
+      let o = owing (class s) slope credit (has waiting k) (has gates k) in
+      let sent = passes 100 (Some k) waiting gates s in (
+        ap (λ t. t.credit) (own_sends 100 waiting gates s) ∙ o.0,
+        held (passes 299 None waiting gates sent) (ap (λ t. lt_z t.credit (pos 0)) (own_waits 299 waiting gates s w g) ∙ ap (λ z. lt_z z (pos 0)) o.1),
+        free (passes 300 None waiting gates sent) (ap (λ t. lt_z t.credit (pos 0)) (own_waits 300 waiting gates s w g) ∙ ap (λ z. lt_z z (pos 0)) o.2),
+      )
+
 pub quarter : Quarter
-quarter s waiting gates slope credit w g =
-    let o = owing s.six slope credit (has waiting 6) (has gates 6) in
-    let early = passes 299 None waiting gates (passes 100 (Some 6) waiting gates s) in
-    let late = passes 300 None waiting gates (passes 100 (Some 6) waiting gates s) in (
-      ap (λ t. t.credit) (six_turns 100 (Some 6) waiting gates s) ∙ o.0,
-      six_held (lt_z early.six.credit (pos 0)) (lt_z early.five.credit (pos 0)) (ap (λ t. lt_z t.credit (pos 0)) (six_waits 299 waiting gates s w g) ∙ ap (λ z. lt_z z (pos 0)) o.1),
-      six_free (lt_z late.six.credit (pos 0)) (lt_z late.five.credit (pos 0)) (ap (λ t. lt_z t.credit (pos 0)) (six_waits 300 waiting gates s w g) ∙ ap (λ z. lt_z z (pos 0)) o.2),
-    )
+quarter = own_quarter 6 (λ s. s.six) (λ s wire waiting gates. refl) (λ s. six_held (lt_z s.six.credit (pos 0)) (lt_z s.five.credit (pos 0))) (λ s. six_free (lt_z s.six.credit (pos 0)) (lt_z s.five.credit (pos 0)))
 
 pub quarter_of_five : QuarterOfFive
-quarter_of_five s waiting gates slope credit w g =
-    let o = owing s.five slope credit (has waiting 5) (has gates 5) in
-    let early = passes 299 None waiting gates (passes 100 (Some 5) waiting gates s) in
-    let late = passes 300 None waiting gates (passes 100 (Some 5) waiting gates s) in (
-      ap (λ t. t.credit) (five_turns 100 (Some 5) waiting gates s) ∙ o.0,
-      five_held (lt_z early.six.credit (pos 0)) (lt_z early.five.credit (pos 0)) (ap (λ t. lt_z t.credit (pos 0)) (five_waits 299 waiting gates s w g) ∙ ap (λ z. lt_z z (pos 0)) o.1),
-      five_free (lt_z late.six.credit (pos 0)) (lt_z late.five.credit (pos 0)) (ap (λ t. lt_z t.credit (pos 0)) (five_waits 300 waiting gates s w g) ∙ ap (λ z. lt_z z (pos 0)) o.2),
-    )
+quarter_of_five = own_quarter 5 (λ s. s.five) (λ s wire waiting gates. refl) (λ s. five_held (lt_z s.six.credit (pos 0)) (lt_z s.five.credit (pos 0))) (λ s. five_free (lt_z s.six.credit (pos 0)) (lt_z s.five.credit (pos 0)))

@@ -1,5 +1,4 @@
 pub mod Rings
 pub mod Orders
 pub mod Masks
-pub mod Shapes
 pub mod Credits

@@ -1,7 +1,28 @@
--- Class 7 is held back by no selection.
-use Rattle.std.proofs.Common.{◌≡◌, ℕ, ◌<◌, Some, None, Option, refl, ap, arith}
-use Rattle.egress.specs.Mask.{In, Within, Picks, SparesSeven}
-use Rattle.egress.specs.Masks.{by_class, in_below}
+-- The highest class of a set, and that class 7 is held back by no selection.
+use Rattle.std.proofs.Common.{◌≡◌, ℕ, zero, suc, ◌-◌, ◌*◌, ◌^◌, ◌<◌, ◌≤◌, Some, None, Option, refl, sym, ap, ◌∙◌, pow-suc, arith}
+use Rattle.std.proofs.lemmas.Nat.{pow_pos}
+use Rattle.std.specs.Int.Count.{leading_unique}
+use Rattle.egress.specs.Mask.{In, highest, Within, Picks, SparesSeven}
+use Rattle.egress.specs.Masks.{in_below, highest_some}
+
+-- the power of two at the head of a set is its highest class
+pub highest_is : (m k : ℕ) → 2 ^ k ≤ m → m < 2 * 2 ^ k → k < 8 → Some k ≡ highest m
+highest_is m k p q b =
+    let s = pow-suc 2 k in
+    let l = leading_unique 8 m (7 - k) (suc k) (omega arith) (omega arith) (omega arith) in
+    sym (highest_some m (λ e. omega (arith, pow_pos k)) ∙ ap Some (omega arith))
+
+-- what holds of each class holds of every number below 8
+pub by_class : (P : ℕ → Type 0) → P 0 → P 1 → P 2 → P 3 → P 4 → P 5 → P 6 → P 7 → (c : ℕ) → c < 8 → P c
+by_class P a b d e f g h i zero p = a
+by_class P a b d e f g h i (suc zero) p = b
+by_class P a b d e f g h i (suc (suc zero)) p = d
+by_class P a b d e f g h i (suc (suc (suc zero))) p = e
+by_class P a b d e f g h i (suc (suc (suc (suc zero)))) p = f
+by_class P a b d e f g h i (suc (suc (suc (suc (suc zero))))) p = g
+by_class P a b d e f g h i (suc (suc (suc (suc (suc (suc zero)))))) p = h
+by_class P a b d e f g h i (suc (suc (suc (suc (suc (suc (suc zero))))))) p = i
+by_class P a b d e f g h i (suc (suc (suc (suc (suc (suc (suc (suc n)))))))) p = absurd (omega arith)
 
 -- class 7 alone is available: any selection replies it
 only_seven : (c : ℕ) → c < 8 → In c 128 → c ≡ 7

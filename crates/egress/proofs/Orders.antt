@@ -1,11 +1,11 @@
 -- The laws of a waiting line.
-use Rattle.std.proofs.Common.{◌≡◌, ℕ, zero, suc, ◌+◌, ◌-◌, ◌<◌, Bool, true, false, cond, ltb, List, [], ◌∷◌, ◌++◌, length, get_or, set, Some, sym, refl, ap, ◌∙◌, ⊎_elim, append_assoc, append-nil, arith}
+use Rattle.std.proofs.Common.{◌≡◌, ℕ, zero, suc, ◌+◌, ◌-◌, ◌<◌, Bool, true, false, cond, ltb, List, [], ◌∷◌, ◌++◌, length, get_or, Some, sym, refl, ap, ◌∙◌, ⊎_elim, append_assoc, append-nil, arith}
 use Rattle.std.proofs.lemmas.List.{length_push}
-use Rattle.std.proofs.lemmas.Bool.{cases_eq, lt-ltb, cond-true}
+use Rattle.std.proofs.lemmas.Bool.{cases_eq, cases_lt, lt-ltb, le-ltb, eq-eqb, ne_eqb, cond-true}
 use Rattle.egress.specs.declared.line.Line.{Line}
-use Rattle.egress.specs.Waiting.{begins, number, round, waits, front, rest, joined, stored, longer, shorter, empty_line}
+use Rattle.egress.specs.Waiting.{begins, number, waits, front, rest, joined, stored, longer, shorter, empty_line}
 use Rattle.egress.specs.Laws.{Move, comes, leaves, held_after, let_in, leaver, gone, LineLaws}
-use Rattle.egress.proofs.Rings.{length_waits, none_waits, push_room, push_full, take_none, take_some, begins_below}
+use Rattle.egress.proofs.Rings.{length_waits, none_waits, more_waits, less_waits, begins_below}
 
 module _ {T : Type 0} where
   -- one that joins is let in, and the line is as before with it behind, or neither
@@ -48,24 +48,19 @@ module _ {T : Type 0} where
   read (x ∷ xs) (suc h) p = read xs h (omega arith)
 
   push_is : (slots : List T) (l : Line) (x : T) → waits (stored slots l x) (longer (length slots) l) ≡ joined (length slots) x (waits slots l)
-  push_is slots l x =
-      let n = number (length slots) l in
-      let h = begins (length slots) l in
-      let j = round (length slots) h n in
-      ⊎_elim
-      (λ e. let t = push_full slots l x n refl e in ap (λ s. waits s (longer (length slots) l)) (sym t.2) ∙ ap (waits slots) (sym t.3) ∙ t.1)
-      (λ e. let t = push_room slots l x h n j refl refl refl e in ap (λ s. waits s (longer (length slots) l)) (sym t.2) ∙ ap (waits (set slots j x)) (sym t.3) ∙ t.1)
-      (cases_eq n (length slots))
+  push_is slots l x = ⊎_elim
+      (λ p. let t = lt-ltb (number (length slots) l) (length slots) p in let r : ltb (length (waits slots l)) (length slots) ≡ true = lt-ltb _ _ (omega (arith, length_waits slots l)) in
+      rw (t, r) (more_waits slots l x p))
+      (λ q. let t = le-ltb (number (length slots) l) (length slots) q in let r : ltb (length (waits slots l)) (length slots) ≡ false = le-ltb _ _ (omega (arith, length_waits slots l)) in
+      rw (t, r) refl)
+      (cases_lt (number (length slots) l) (length slots))
 
   take_is : (slots : List T) (l : Line) → waits slots (shorter (length slots) l) ≡ rest (waits slots l)
-  take_is slots l =
-      let n = number (length slots) l in
-      let h = begins (length slots) l in
-      ⊎_elim
-      (λ e. let t = take_none slots l n refl e in ap (waits slots) (sym t.2) ∙ t.1)
-      (λ e. let y = read slots h (begins_below (length slots) l (omega arith)) in
-      let t = take_some slots l y.0 h n (round (length slots) h 1) refl refl refl e y.1 in ap (waits slots) (sym t.2) ∙ t.1)
-      (cases_eq n 0)
+  take_is slots l = ⊎_elim
+      (λ e. let t = eq-eqb (number (length slots) l) 0 e in let none = none_waits slots l e in rw t (none ∙ sym (ap rest none)))
+      (λ e. let t = ne_eqb (number (length slots) l) 0 e in let y = read slots (begins (length slots) l) (begins_below (length slots) l (omega arith)) in
+      rw t (less_waits slots l y.0 (omega arith) y.1))
+      (cases_eq (number (length slots) l) 0)
 
   pub line_laws : LineLaws T
   line_laws = record {

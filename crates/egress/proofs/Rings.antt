@@ -1,24 +1,23 @@
 -- One more at the end of a ring, and one less at its front.
-use Rattle.std.proofs.Common.{◌≡◌, ℕ, zero, suc, ◌+◌, ◌-◌, ◌<◌, ◌≤◌, true, false, eqb, ltb, ◌⊎◌, List, [], ◌∷◌, ◌++◌, length, get_or, take, drop, set, Some, None, sym, refl, ap, ◌∙◌, subst, inl, inr, ⊎_elim, arith, length-append, length-drop, length-set}
-use Rattle.std.proofs.lemmas.List.{get_or_append_left, get_or-append_right, get_or-set_same, get_or-set_other, get_or-take, get_or-drop, get_or_push, length-take-le, length_push, same_lists, drop_more, drop_at, take-append-le}
-use Rattle.std.proofs.lemmas.Bool.{cases_lt, lt-ltb, le-ltb, eq-eqb, ne_eqb, cond-true, cond-false}
+use Rattle.std.proofs.Common.{◌≡◌, ℕ, zero, suc, ◌+◌, ◌-◌, ◌<◌, ◌≤◌, ◌⊎◌, List, [], ◌∷◌, ◌++◌, length, get_or, take, drop, set, Some, sym, ap, ◌∙◌, ⊎_elim, arith, length-append, length-drop, length-set}
+use Rattle.std.proofs.lemmas.List.{get_or_append_left, get_or-take, get_or-drop, get_or_push, length-take-le, length_push, same_lists, drop_at, take-append-le}
+use Rattle.std.proofs.lemmas.Bool.{cases_lt}
+use Rattle.std.proofs.lemmas.Bool.Decides.{nat_tests}
+use Rattle.std.proofs.lemmas.Grind.{common_steps}
 use Rattle.egress.specs.declared.line.Line.{Line}
-use Rattle.egress.specs.Waiting.{begins, number, round, ring, waits, front, rest, joined, stored, longer, shorter}
+use Rattle.egress.specs.Waiting.{begins, number, round, ring, waits, front, rest}
 
 pub begins_below : (room : ℕ) (l : Line) → 0 < room → begins room l < room
-begins_below room l p = ⊎_elim (λ q. subst (λ n. n < room) (sym (cond-true (ltb l.head room) l.head 0 (lt-ltb l.head room q))) q) (λ q. subst (λ n. n < room) (sym (cond-false (ltb l.head room) l.head 0 (le-ltb l.head room q))) p) (cases_lt l.head room)
+begins_below room l p = grind (arith, nat_tests)
 
 begins_within : (room : ℕ) (l : Line) → begins room l ≤ room
-begins_within room l = ⊎_elim (λ p. let b = begins_below room l p in omega arith) (λ p. let z : room ≡ 0 = omega arith in let e : begins room l ≡ 0 = cond-false (ltb l.head room) l.head 0 (le-ltb l.head room (omega arith)) in omega arith) (cases_lt 0 room)
+begins_within room l = grind (arith, nat_tests)
 
 begins_same : (room h n : ℕ) → h < room → begins room (record { head = h; count = n }) ≡ h
-begins_same room h n p = cond-true (ltb h room) h 0 (lt-ltb h room p)
+begins_same room h n p = grind (arith, nat_tests)
 
 pub round_is : (room h k : ℕ) → h < room → k ≤ room → (round room h k < room) × ((h + k ≡ round room h k) ⊎ (h + k ≡ round room h k + room))
-round_is room h k p q = ⊎_elim
-    (λ l. let e : round room h k ≡ h + k = cond-true (ltb (h + k) room) (h + k) (h + k - room) (lt-ltb (h + k) room l) in (omega arith, inl (sym e)))
-    (λ l. let e : round room h k ≡ h + k - room = cond-false (ltb (h + k) room) (h + k) (h + k - room) (le-ltb (h + k) room l) in (omega arith, inr (omega arith)))
-    (cases_lt (h + k) room)
+round_is room h k p q = grind (arith, nat_tests)
 
 module _ {T : Type 0} where
   length_ring : (xs : List T) (h n : ℕ) → h ≤ length xs → n ≤ length xs → length (ring xs h n) ≡ n
@@ -38,36 +37,24 @@ module _ {T : Type 0} where
   ring_at xs h n k d p = get_or-take n (drop h (xs ++ xs)) k d p ∙ get_or-drop h (xs ++ xs) k d
 
   other : (xs : List T) (j i : ℕ) (x d : T) → (i ≡ j → ⊥) → (i ≡ j + length xs → ⊥) → get_or (set xs j x ++ set xs j x) i d ≡ get_or (xs ++ xs) i d
-  other xs j i x d p q =
-      let e = length-set xs j x in
-      ⊎_elim
-      (λ l. get_or_append_left _ _ d i (omega arith) ∙ get_or-set_other xs j i x d p ∙ sym (get_or_append_left xs xs d i l))
-      (λ l. get_or-append_right (set xs j x) (set xs j x) (length xs) i d e l ∙ get_or-set_other xs j (i - length xs) x d (λ z. q (omega arith)) ∙ sym (get_or-append_right xs xs (length xs) i d refl l))
-      (cases_lt i (length xs))
+  other xs j i x d p q = grind (arith, common_steps)
 
   here : (xs : List T) (j i : ℕ) (x d : T) → j < length xs → (i ≡ j) ⊎ (i ≡ j + length xs) → get_or (set xs j x ++ set xs j x) i d ≡ x
-  here xs j i x d l w =
-      let e = length-set xs j x in
-      ⊎_elim
-      (λ z. get_or_append_left _ _ d i (omega arith) ∙ ap (λ n. get_or (set xs j x) n d) z ∙ get_or-set_same xs j x d l)
-      (λ z. let y : i - length xs ≡ j = omega arith in get_or-append_right (set xs j x) (set xs j x) (length xs) i d e (omega arith) ∙ ap (λ n. get_or (set xs j x) n d) y ∙ get_or-set_same xs j x d l)
-      w
+  here xs j i x d l w = grind (arith, common_steps)
 
   ring_push : (xs : List T) (h n j : ℕ) (x : T) → h < length xs → n < length xs → j < length xs → (h + n ≡ j) ⊎ (h + n ≡ j + length xs) → ring (set xs j x) h (n + 1) ≡ ring xs h n ++ x ∷ []
   ring_push xs h n j x p q r w =
-      let e = length-set xs j x in
-      let a : length (ring (set xs j x) h (n + 1)) ≡ n + 1 = length_ring (set xs j x) h (n + 1) (omega arith) (omega arith) in
+      let a : length (ring (set xs j x) h (n + 1)) ≡ n + 1 = length_ring (set xs j x) h (n + 1) (omega (arith, length-set xs j x)) (omega (arith, length-set xs j x)) in
       let b : length (ring xs h n) ≡ n = length_ring xs h n (omega arith) (omega arith) in
       same_lists _ _ (a ∙ sym (length_push (ring xs h n) x ∙ ap (λ m. m + 1) b))
       (λ k d l. ⊎_elim
-      (λ z. ring_at (set xs j x) h (n + 1) k d (omega arith) ∙ other xs j (h + k) x d (λ y. ⊎_elim (λ v. absurd (omega arith)) (λ v. absurd (omega arith)) w) (λ y. ⊎_elim (λ v. absurd (omega arith)) (λ v. absurd (omega arith)) w) ∙ sym (get_or_append_left (ring xs h n) (x ∷ []) d k (omega arith) ∙ ring_at xs h n k d z))
-      (λ z. let y : k ≡ n = omega arith in
-      ring_at (set xs j x) h (n + 1) k d (omega arith) ∙ here xs j (h + k) x d r (subst (λ m. (h + m ≡ j) ⊎ (h + m ≡ j + length xs)) (sym y) w) ∙ sym (get_or_push (ring xs h n) x d k (omega arith)))
+      (λ z. ring_at (set xs j x) h (n + 1) k d (omega arith) ∙ other xs j (h + k) x d (λ y. grind arith) (λ y. grind arith) ∙ sym (get_or_append_left (ring xs h n) (x ∷ []) d k (omega arith) ∙ ring_at xs h n k d z))
+      (λ z. ring_at (set xs j x) h (n + 1) k d (omega arith) ∙ here xs j (h + k) x d r (grind arith) ∙ sym (get_or_push (ring xs h n) x d k (omega arith)))
       (cases_lt k n))
 
   -- the first, and those after it
   split : (xs : List T) (h m : ℕ) (x : T) → h < length xs → x ≡ get_or xs h x → ring xs h (suc m) ≡ x ∷ take m (drop (h + 1) (xs ++ xs))
-  split xs h m x p e = ap (take (suc m)) (drop_more (xs ++ xs) h x (simp length-append (omega arith)) ∙ ap (λ y. y ∷ drop (h + 1) (xs ++ xs)) (get_or_append_left xs xs x h p ∙ sym e))
+  split xs h m x p e = grind (arith, common_steps)
 
   ring_front : (xs : List T) (h n : ℕ) (x : T) → h < length xs → 0 < n → x ≡ get_or xs h x → Some x ≡ front (ring xs h n)
   ring_front xs h zero x p q e = absurd (omega arith)
@@ -114,43 +101,3 @@ module _ {T : Type 0} where
       let b = begins_below (length xs) l (omega arith) in
       let w = round_is (length xs) h 1 b (omega arith) in
       waits_at xs (round (length xs) h 1) (n - 1) w.0 (omega arith) ∙ ring_rest xs h n (round (length xs) h 1) x b p (omega arith) e w.1 w.0
-
-  -- a line with room takes one more
-  pub push_room : (xs : List T) (l : Line) (x : T) (h n j : ℕ) → n ≡ number (length xs) l → h ≡ begins (length xs) l → j ≡ round (length xs) h n → (n ≡ length xs → ⊥) →
-      (true ≡ ltb (length (waits xs l)) (length xs)) × (waits (set xs j x) (record { head = h; count = n + 1 }) ≡ joined (length xs) x (waits xs l)) × (set xs j x ≡ stored xs l x) × (◌≡◌ {A = Line} (record { head = h; count = n + 1 }) (longer (length xs) l))
-  push_room xs l x h n j a b e ne =
-      let p : number (length xs) l < length xs = omega arith in
-      let room : ltb (length (waits xs l)) (length xs) ≡ true = lt-ltb (length (waits xs l)) (length xs) (omega (arith, length_waits xs l)) in
-      let t : ltb (number (length xs) l) (length xs) ≡ true = lt-ltb (number (length xs) l) (length xs) p in
-      let slot : j ≡ round (length xs) (begins (length xs) l) (number (length xs) l) = e ∙ ap (λ i. round (length xs) i n) b ∙ ap (round (length xs) (begins (length xs) l)) a in
-      let line : ◌≡◌ {A = Line} (record { head = h; count = n + 1 }) (record { head = begins (length xs) l; count = number (length xs) l + 1 }) = (λ i. record { head = b i; count = a i + 1 }) in (
-        sym room,
-        ap (λ k. waits (set xs k x) (record { head = h; count = n + 1 })) slot ∙ ap (waits (set xs (round (length xs) (begins (length xs) l) (number (length xs) l)) x)) line ∙ more_waits xs l x p ∙ sym (cond-true (ltb (length (waits xs l)) (length xs)) _ _ room),
-        ap (λ k. set xs k x) slot ∙ sym (cond-true (ltb (number (length xs) l) (length xs)) _ _ t),
-        line ∙ sym (cond-true (ltb (number (length xs) l) (length xs)) _ _ t),
-      )
-
-  -- a full line stays as it is
-  pub push_full : (xs : List T) (l : Line) (x : T) (n : ℕ) → n ≡ number (length xs) l → n ≡ length xs →
-      (false ≡ ltb (length (waits xs l)) (length xs)) × (waits xs l ≡ joined (length xs) x (waits xs l)) × (xs ≡ stored xs l x) × (l ≡ longer (length xs) l)
-  push_full xs l x n a e =
-      let room : ltb (length (waits xs l)) (length xs) ≡ false = le-ltb (length (waits xs l)) (length xs) (omega (arith, length_waits xs l)) in
-      let t : ltb (number (length xs) l) (length xs) ≡ false = le-ltb (number (length xs) l) (length xs) (omega arith) in
-      (sym room, sym (cond-false (ltb (length (waits xs l)) (length xs)) _ _ room), sym (cond-false (ltb (number (length xs) l) (length xs)) _ _ t), sym (cond-false (ltb (number (length xs) l) (length xs)) _ _ t))
-
-  -- the first leaves a line that is not empty
-  pub take_some : (xs : List T) (l : Line) (x : T) (h n j : ℕ) → n ≡ number (length xs) l → h ≡ begins (length xs) l → j ≡ round (length xs) h 1 → (n ≡ 0 → ⊥) → x ≡ get_or xs h x →
-      (Some x ≡ front (waits xs l)) × (waits xs (record { head = j; count = n - 1 }) ≡ rest (waits xs l)) × (◌≡◌ {A = Line} (record { head = j; count = n - 1 }) (shorter (length xs) l))
-  take_some xs l x h n j a b e ne is =
-      let p : 0 < number (length xs) l = omega arith in
-      let t : eqb (number (length xs) l) 0 ≡ false = ne_eqb (number (length xs) l) 0 (omega arith) in
-      let at : x ≡ get_or xs (begins (length xs) l) x = is ∙ ap (λ i. get_or xs i x) b in
-      let slot : j ≡ round (length xs) (begins (length xs) l) 1 = e ∙ ap (λ i. round (length xs) i 1) b in
-      let line : ◌≡◌ {A = Line} (record { head = j; count = n - 1 }) (record { head = round (length xs) (begins (length xs) l) 1; count = number (length xs) l - 1 }) = (λ i. record { head = slot i; count = a i - 1 }) in
-      (first_waits xs l x p at, ap (waits xs) line ∙ less_waits xs l x p at, line ∙ sym (cond-false (eqb (number (length xs) l) 0) _ _ t))
-
-  -- nothing leaves an empty line
-  pub take_none : (xs : List T) (l : Line) (n : ℕ) → n ≡ number (length xs) l → n ≡ 0 → (None ≡ front (waits xs l)) × (waits xs l ≡ rest (waits xs l)) × (l ≡ shorter (length xs) l)
-  take_none xs l n a e =
-      let none = none_waits xs l (omega arith) in
-      (sym (ap front none), none ∙ sym (ap rest none), sym (cond-true (eqb (number (length xs) l) 0) _ _ (eq-eqb (number (length xs) l) 0 (omega arith))))

@@ -23,20 +23,21 @@ Gains = (s : Shaped) (n : ℕ) → (turns n false true true s).credit ≡ stoppe
 abbrev pub Spends : Type 0
 Spends = (s : Shaped) (n : ℕ) (waits gate : Bool) → (turns n true waits gate s).credit ≡ stopped (s.credit -ℤ pos (n * (1000 - s.slope)))
 
--- a frame of 100 ticks sent by class 6 from credit 0 with slope 250, another waiting and its gate open:
+-- a frame of 100 ticks sent by class k of a shaper from credit 0 with slope 250, another waiting and its gate open:
 -- the credit is then −75,000, and the class is held back for 299 more ticks and not after 300
-abbrev pub Quarter : Type 0
-Quarter = (s : Shaper) (waiting gates : ℕ) → s.six.slope ≡ 250 → s.six.credit ≡ pos 0 → In 6 waiting → In 6 gates →
-    ((passes 100 (Some 6) waiting gates s).six.credit ≡ negsuc 74999)
-    × In 6 (held_back (passes 299 None waiting gates (passes 100 (Some 6) waiting gates s)))
-    × (In 6 (held_back (passes 300 None waiting gates (passes 100 (Some 6) waiting gates s))) → ⊥)
+abbrev pub QuarterOf : ℕ → (Shaper → Shaped) → Type 0
+QuarterOf k class = (s : Shaper) (waiting gates : ℕ) → (class s).slope ≡ 250 → (class s).credit ≡ pos 0 → In k waiting → In k gates →
+    ((class (passes 100 (Some k) waiting gates s)).credit ≡ negsuc 74999)
+    × In k (held_back (passes 299 None waiting gates (passes 100 (Some k) waiting gates s)))
+    × (In k (held_back (passes 300 None waiting gates (passes 100 (Some k) waiting gates s))) → ⊥)
 
--- the same of class 5
+-- so it is of class 6
+abbrev pub Quarter : Type 0
+Quarter = QuarterOf 6 (λ s. s.six)
+
+-- and of class 5
 abbrev pub QuarterOfFive : Type 0
-QuarterOfFive = (s : Shaper) (waiting gates : ℕ) → s.five.slope ≡ 250 → s.five.credit ≡ pos 0 → In 5 waiting → In 5 gates →
-    ((passes 100 (Some 5) waiting gates s).five.credit ≡ negsuc 74999)
-    × In 5 (held_back (passes 299 None waiting gates (passes 100 (Some 5) waiting gates s)))
-    × (In 5 (held_back (passes 300 None waiting gates (passes 100 (Some 5) waiting gates s))) → ⊥)
+QuarterOfFive = QuarterOf 5 (λ s. s.five)
 
 -- with slope 250 from credit 0 the upper limit is reached after 8,000 ticks of waiting and the lower after 2,667 on the wire, and there the credit stays
 abbrev pub Stops : Type 0

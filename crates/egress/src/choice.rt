@@ -12,12 +12,14 @@ use crate::shifted::Shifted;
 use crate::stepped::Stepped;
 use crate::strict::StrictPriority;
 
-// What a port selects by: strict priority or the shaper.
+/// What a port selects by: strict priority or the shaper.
 pub type StrictOrShaper = Choice<StrictPriority, Shaper>;
 
-// What a port reads: a clock of any of the three kinds.
+/// What a port reads: a clock of any of the three kinds.
 pub type AnyClock = Choice<Exact, Choice<Shifted, Stepped>>;
 
+// An enum of its own: no `Result`, since neither kind is a failure, and no `dyn`, since a port has no heap.
+/// Either of two kinds.
 #[derive(Clone, Copy, Drop)]
 pub enum Choice<A, B> {
     First(A),
@@ -25,7 +27,7 @@ pub enum Choice<A, B> {
 }
 
 impl<A: Selection, B: Selection> Selection for Choice<A, B> {
-    ghost may = { bit_or A.Selection.may B.Selection.may };
+    ghost MASK = { bit_or A.Selection.MASK B.Selection.MASK };
 
     ghost held = { either A.Selection.held B.Selection.held };
 
@@ -35,18 +37,14 @@ impl<A: Selection, B: Selection> Selection for Choice<A, B> {
 
     const MASK: u8 = A::MASK | B::MASK;
 
-    ghost spared = { or_lt 7 A.Selection.may B.Selection.may A.Selection.spared B.Selection.spared };
+    ghost spared = { or_lt 7 A.Selection.MASK B.Selection.MASK A.Selection.spared B.Selection.spared };
 
     ghost within = { elim [
-      | First a ↦ let w = A.Selection.within a in record { mask = w.mask; among = λ c h. in_or_l c A.Selection.may B.Selection.may (w.among c h) }
-      | Second b ↦ let w = B.Selection.within b in record { mask = w.mask; among = λ c h. in_or_r c A.Selection.may B.Selection.may (w.among c h) }
+      | First a ↦ let w = A.Selection.within a in record { mask = w.mask; among = λ c h. in_or_l c A.Selection.MASK B.Selection.MASK (w.among c h) }
+      | Second b ↦ let w = B.Selection.within b in record { mask = w.mask; among = λ c h. in_or_r c A.Selection.MASK B.Selection.MASK (w.among c h) }
     ] };
 
     ghost picks = { elim [ First a ↦ A.Selection.picks a | Second b ↦ B.Selection.picks b ] };
-
-    fn may_hold() -> u8 {
-        A::may_hold() | B::may_hold()
-    }
 
     fn ask(&self, available: u8) -> Option<u8> {
         match self {

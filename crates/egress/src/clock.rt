@@ -6,6 +6,7 @@ ghost use Rattle.egress.specs.ClockLemmas.{exact_near};
 // Past this tick every clock stands still.
 const HORIZON: u64 = 1 << 48;
 
+/// What a port reads at each true tick.
 pub trait Clock {
     // the reading at each true tick
     ghost reading: { Self → ℕ → ℕ };
@@ -13,11 +14,11 @@ pub trait Clock {
     // how far a reading may be off
     ghost bound: { Self → ℕ };
 
-    // The reading at the true tick t.
+    /// The reading at the true tick t.
     fn read(&self, t: u64) -> u64
         ensures { result ≡ reading self.now t };
 
-    // The same as `bound`, for code.
+    /// The same as `bound`, for code.
     fn error_bound(&self) -> u64
         ensures { result ≡ bound self.now };
 
@@ -31,7 +32,7 @@ pub(crate) fn up_to_horizon(t: u64) -> u64
     t.min(HORIZON)
 }
 
-// Reads the true tick.
+/// Reads the true tick.
 #[derive(Clone, Copy)]
 pub struct Exact;
 

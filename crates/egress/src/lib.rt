@@ -5,6 +5,7 @@ pub mod choice;
 pub mod clock;
 pub mod line;
 pub mod ordinary;
+pub mod queue;
 pub mod scheduled;
 pub mod selection;
 pub mod setting;

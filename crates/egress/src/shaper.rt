@@ -2,7 +2,7 @@
 ghost use Rattle.std.specs.Prelude.{◌≡◌, ℕ, ◌<◌, ℤ, pos, Option, int_lt, refl};
 ghost use Rattle.egress.specs.Mask.{has, sends, left, highest};
 ghost use Rattle.egress.specs.Credit.{credited, credit_of, held_back, passed_on};
-ghost use Rattle.egress.specs.Settings.{slope_fits, MadeShaper};
+ghost use Rattle.egress.specs.Settings.{MadeShaper};
 ghost use Rattle.egress.specs.Masks.{highest_picks, held_within};
 ghost use Rattle.std.proofs.Common.{lit<};
 
@@ -11,15 +11,15 @@ use crate::setting::Refused;
 use crate::shaped::Shaped;
 use crate::strict::highest_class;
 
-// The greatest slope, in thousandths of the link.
-const MOST_SLOPE: u16 = 999;
-
+// Two fields and no array: contracts and callers name the two classes.
+/// The two shaped classes.
 #[derive(Clone, Copy)]
 pub struct Shaper {
     six: Shaped,
     five: Shaped,
 }
 
+// Whether a class is in a set.
 fn is_in(set: u8, class: u8) -> bool
     requires { class < 8 }
     ensures { result ≡ has set class }
@@ -27,45 +27,25 @@ fn is_in(set: u8, class: u8) -> bool
     (set >> class) % 2 == 1
 }
 
+// Whether a class is the one on the wire.
 fn is_sent(wire: Option<u8>, class: u8) -> bool
     ensures { result ≡ sends wire class }
 {
-    match wire {
-        Some(c) => c == class,
-        None => false,
-    }
-}
-
-fn fits(slope: u16) -> bool
-    ensures { result ≡ slope_fits slope }
-{
-    0 < slope && slope <= MOST_SLOPE
+    wire == Some(class)
 }
 
 impl Shaper {
-    // A shaper with these slopes for classes 6 and 5, each 1 to 999, and no credit.
+    /// A shaper with these slopes for classes 6 and 5, each 1 to 999, and no credit.
     pub fn new(six: u16, five: u16) -> Result<Shaper, Refused>
         ensures { MadeShaper six five result }
     {
-        if !fits(six) {
-            return Err(Refused::Slope {
-                class: 6,
-                slope: six,
-            });
-        }
-        if !fits(five) {
-            return Err(Refused::Slope {
-                class: 5,
-                slope: five,
-            });
-        }
         Ok(Shaper {
-            six: Shaped::new(six),
-            five: Shaped::new(five),
+            six: Shaped::new(6, six)?,
+            five: Shaped::new(5, five)?,
         })
     }
 
-    // The credit of a class, if it is a shaped one.
+    /// The credit of a class, if it is a shaped one.
     pub fn credit(&self, class: u8) -> Option<i32>
         ensures { result ≡ credit_of self.now class }
     {
@@ -86,7 +66,7 @@ impl Shaper {
 }
 
 impl Selection for Shaper {
-    ghost may = { 96 };
+    ghost MASK = { 96 };
 
     ghost held = { held_back };
 
@@ -101,10 +81,6 @@ impl Selection for Shaper {
     ghost within = { λ s. held_within (int_lt s.six.credit (pos 0)) (int_lt s.five.credit (pos 0)) };
 
     ghost picks = { λ s. let h = held_back s in highest_picks h (λ a. highest (left a h)) (held_within (int_lt s.six.credit (pos 0)) (int_lt s.five.credit (pos 0))).mask (λ a l. refl) };
-
-    fn may_hold() -> u8 {
-        Self::MASK
-    }
 
     fn ask(&self, available: u8) -> Option<u8> {
         highest_class(available & !self.held())

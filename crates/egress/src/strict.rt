@@ -6,21 +6,20 @@ ghost use Rattle.egress.specs.Masks.{highest_picks, left_none, none_within};
 
 use crate::selection::Selection;
 
+/// Replies the highest available class, and has no state.
 #[derive(Clone, Copy)]
 pub struct StrictPriority;
 
 // The highest class of a set.
+#[tactic(auto, using(crate::proofs::Masks::highest_is))]
 pub(crate) fn highest_class(classes: u8) -> Option<u8>
     ensures { result ≡ highest classes }
 {
-    if classes == 0 {
-        return None;
-    }
-    Some((7 - classes.leading_zeros()) as u8)
+    Some(classes.checked_ilog2()? as u8)
 }
 
 impl Selection for StrictPriority {
-    ghost may = { 0 };
+    ghost MASK = { 0 };
 
     ghost held = { λ _. 0 };
 
@@ -35,10 +34,6 @@ impl Selection for StrictPriority {
     ghost within = { λ _. none_within };
 
     ghost picks = { λ s. highest_picks 0 highest (lit< tt) (λ a l. ap highest (sym (left_none a l))) };
-
-    fn may_hold() -> u8 {
-        Self::MASK
-    }
 
     fn ask(&self, available: u8) -> Option<u8> {
         highest_class(available)

@@ -8,5 +8,5 @@ returns g c =
     let m = g.met.S.Selection in
     record {
       reply = c.ask.ensures;
-      seven = λ e. c.ask.ensures ∙ ap (g.S.Selection.pick s) e ∙ seven_goes g.S.Selection.may (g.S.Selection.held s) (g.S.Selection.pick s) m.spared (m.within s) (m.picks s);
+      seven = λ e. c.ask.ensures ∙ ap (g.S.Selection.pick s) e ∙ seven_goes g.S.Selection.MASK (g.S.Selection.held s) (g.S.Selection.pick s) m.spared (m.within s) (m.picks s);
     }

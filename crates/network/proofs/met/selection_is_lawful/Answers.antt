@@ -5,4 +5,4 @@ pub returns : goal.returns
 returns g c =
     let s = g.S.Selection in
     let m = g.met.S.Selection in
-    lawful_of s.may s.held s.pick s.passed m.spared m.within m.picks
+    lawful_of s.MASK s.held s.pick s.passed m.spared m.within m.picks

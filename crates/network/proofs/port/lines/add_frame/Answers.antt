@@ -3,7 +3,7 @@ use Rattle.std.proofs.lemmas.List.{get_or-map}
 use Rattle.std.proofs.lemmas.Bool.{cond-true, lt-ltb}
 use Rattle.egress.specs.Lines.{frames}
 use Rattle.egress.specs.declared.ordinary.Frame.{Frame}
-use Rattle.egress.specs.declared.ordinary.FrameLine.{FrameLine}
+use Rattle.egress.specs.Lines.{FrameLine}
 use Rattle.network.proofs.Places.{place_seen}
 use Rattle.network.proofs.port.lines.add_frame.Goals as goal
 

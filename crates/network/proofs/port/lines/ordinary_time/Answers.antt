@@ -2,7 +2,7 @@ use Rattle.std.proofs.Common.{[], sym, ap, ◌∙◌, arith, lit<}
 use Rattle.std.proofs.lemmas.List.{get_or-map}
 use Rattle.egress.specs.Lines.{frames}
 use Rattle.egress.specs.Waiting.{front}
-use Rattle.egress.specs.declared.ordinary.FrameLine.{FrameLine}
+use Rattle.egress.specs.Lines.{FrameLine}
 use Rattle.network.specs.Ports.{frame_time}
 use Rattle.network.proofs.Portions.{first_time, first_none}
 use Rattle.network.proofs.port.lines.ordinary_time.Goals as goal
