@@ -58,6 +58,10 @@ mask_more : (n : ℕ) (a : ℕ → Bool) → mask_below (n + 1) a ≡ mask_below
 unfolding mask_below
 mask_more n a = ap (λ m. mask_below m a) (add-one n)
 
+pub mask_fits : (n m : ℕ) (b : Bool) → m < 2 ^ n → m + cond b (2 ^ n) 0 < 2 ^ (n + 1)
+mask_fits n m true h = omega (arith, pow-suc 2 n, ap (λ k. 2 ^ k) (add-one n))
+mask_fits n m false h = omega (arith, pow-suc 2 n, ap (λ k. 2 ^ k) (add-one n))
+
 pub mask_step : (n : ℕ) (a : ℕ → Bool) (m : ℕ) (b : Bool) (r : ℕ) → m ≡ mask_below n a → b ≡ a n → r ≡ m + cond b (2 ^ n) 0 → r ≡ mask_below (n + 1) a
 mask_step n a m b r e f g = g ∙ (λ i. e i + cond (f i) (2 ^ n) 0) ∙ sym (mask_more n a)
 

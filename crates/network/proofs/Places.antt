@@ -24,20 +24,11 @@ module _ {A : Type 0} where
 pub place_seen : {X Y : Type 0} (V : X → Y) (p : ℕ) (f : Y → Y) (xs : List X) (x d : X) → p < length xs → V x ≡ f (V (get_or xs p d)) → map V (set xs p x) ≡ at_place p f (map V xs)
 place_seen V p f xs x d h e = map-set V xs p x ∙ place_set p f (map V xs) (V x) (V d) (omega (arith, length-map xs V)) (e ∙ ap f (sym (get_or-map V xs p d (V d) h)))
 
--- what is read at a place
-pub at_or_here : {A B : Type 0} (g : A → B) (e : B) (xs : List A) (p : ℕ) (d : A) → p < length xs → at_or g e xs p ≡ g (get_or xs p d)
-at_or_here g e [] p d h = absurd (omega arith)
-at_or_here g e (x ∷ xs) zero d h = refl
-at_or_here g e (x ∷ xs) (suc p) d h = at_or_here g e xs p d (omega arith)
+-- what is read at a place of a list seen through V
+pub at_or_map : {X A B : Type 0} (V : X → A) (g : A → B) (e : B) (xs : List X) (p : ℕ) → at_or g e (map V xs) p ≡ get_or (map (λ x. g (V x)) xs) p e
+at_or_map V g e [] p = refl
+at_or_map V g e (x ∷ xs) zero = refl
+at_or_map V g e (x ∷ xs) (suc p) = at_or_map V g e xs p
 
-pub at_or_past : {A B : Type 0} (g : A → B) (e : B) (xs : List A) (p : ℕ) → length xs ≤ p → at_or g e xs p ≡ e
-at_or_past g e [] p h = refl
-at_or_past g e (x ∷ xs) zero h = absurd (omega arith)
-at_or_past g e (x ∷ xs) (suc p) h = at_or_past g e xs p (omega arith)
-
--- likewise of a list seen through V
 pub at_or_seen : {X A B : Type 0} (V : X → A) (g : A → B) (e : B) (xs : List X) (p : ℕ) (d : X) → p < length xs → at_or g e (map V xs) p ≡ g (V (get_or xs p d))
-at_or_seen V g e xs p d h = at_or_here g e (map V xs) p (V d) (omega (arith, length-map xs V)) ∙ ap g (get_or-map V xs p d (V d) h)
-
-pub at_or_unseen : {X A B : Type 0} (V : X → A) (g : A → B) (e : B) (xs : List X) (p : ℕ) → length xs ≤ p → at_or g e (map V xs) p ≡ e
-at_or_unseen V g e xs p h = at_or_past g e (map V xs) p (omega (arith, length-map xs V))
+at_or_seen V g e xs p d h = at_or_map V g e xs p ∙ get_or-map (λ x. g (V x)) xs p d e h

@@ -2,6 +2,7 @@
 ghost use Rattle.std.specs.Prelude.{◌≡◌, ◌≤◌, length};
 ghost use Rattle.egress.specs.Lines.{flows};
 
+use crate::wire::Wire;
 use egress::ordinary::FrameLine;
 use egress::scheduled::FlowLine;
 
@@ -15,9 +16,7 @@ pub struct Port<S> {
     scheduled: FlowLine,
     // The lines of the classes 0 to 6.
     ordinary: [FrameLine; 7],
-    // The class put on the wire last, and the first tick at which the wire is free again.
-    class: u8,
-    until: u64,
+    wire: Wire,
     selection: S,
     // The flow whose frame was put on the wire in the tick run last.
     started: Option<u8>,

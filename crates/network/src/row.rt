@@ -11,7 +11,7 @@ pub struct Transits {
 }
 
 /// A flow's row: its frame, and what its record counts since the plan came into force.
-#[derive(Clone, Copy)]
+#[derive(Clone, Copy, Default)]
 pub struct Row {
     pub flight: Flight,
     pub accepted: u64,

@@ -24,37 +24,23 @@ impl<S> Port<S> {
     {
         add_frame(&mut self.ordinary, class, frame);
     }
-
-    // What the wire carries, with the tick to be run: the class and its last tick.
-    fn carries(&self, t: u64) -> Option<(u8, u64)>
-        ensures { result ≡ carried t (port_of self.now) }
-    {
-        if t < self.until {
-            Some((self.class, self.until - 1))
-        } else {
-            None
-        }
-    }
 }
 
 // Whether port p has put the frame of flow f on the wire in the tick run last.
 pub(crate) fn has_started<S>(ports: &[Port<S>], p: usize, f: usize) -> bool
     ensures { result ≡ is_flow (slice_index_or (map started_of ports.now) p None) f }
 {
-    if p >= ports.len() {
-        return false;
-    }
-    let port = &ports[p];
-    match port.started {
-        Some(g) => g as usize == f,
-        None => false,
-    }
+    ports
+        .get(p)
+        .and_then(|port| port.started)
+        .is_some_and(|g| usize::from(g) == f)
 }
 
 // The frame of flow f joins the line of class 7 of port p.
 pub(crate) fn accept_at<S>(ports: &mut [Port<S>], p: usize, f: u8)
     ensures { map port_of ports.new ≡ at_place p (joined_by (f ∷ [])) (map port_of ports.old) }
 {
+    // By index: of a port that `get_mut` lends no clause says what the slice then holds.
     if p < ports.len() {
         ports[p].accept(f);
     }
@@ -72,19 +58,14 @@ pub(crate) fn enqueue_at<S>(ports: &mut [Port<S>], p: usize, class: usize, frame
 pub(crate) fn waiting_at<S>(ports: &[Port<S>], p: usize, class: usize) -> usize
     ensures { result ≡ at_or (line_length class) 0 (map port_of ports.now) p }
 {
-    if p >= ports.len() {
-        return 0;
-    }
-    let port = &ports[p];
-    line_len(&port.ordinary, class)
+    ports
+        .get(p)
+        .map_or(0, |port| line_len(&port.ordinary, class))
 }
 
-// What the wire of port p carries, with the tick to be run.
+// What the wire of port p carries, with the tick to be run: the class and its last tick.
 pub(crate) fn carried_at<S>(ports: &[Port<S>], p: usize, t: u64) -> Option<(u8, u64)>
     ensures { result ≡ at_or (carried t) None (map port_of ports.now) p }
 {
-    if p >= ports.len() {
-        return None;
-    }
-    ports[p].carries(t)
+    ports.get(p).and_then(|port| port.wire.carries(t))
 }

@@ -12,7 +12,7 @@ use super::ticks::{step_ports, step_rows};
 use crate::flight::Flight;
 use crate::lookups::port_of_hop;
 use crate::port::places::{accept_at, carried_at, enqueue_at, waiting_at};
-use crate::row::acts::{accept, blank_row, flight_of, tell};
+use crate::row::acts::{accept, flight_of, tell};
 use crate::row::{FlowRecord, Row};
 use egress::clock::Clock;
 use egress::ordinary::Frame;
@@ -123,7 +123,8 @@ fn refill(rows: &mut Vec<Row>, n: usize)
     ensures capacity { vec_capacity rows.new ≡ vec_capacity rows.old }
 {
     rows.clear();
+    // One by one: the calls of `Vec` that fill it reply with a `Result`, and here there is room.
     for _i in 0..n {
-        rows.push_reserved(blank_row());
+        rows.push_reserved(Row::default());
     }
 }

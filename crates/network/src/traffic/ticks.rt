@@ -8,10 +8,11 @@ ghost use Rattle.network.specs.Traffic.{followed};
 
 use crate::flight::Flight;
 use crate::lookups::{link_delay, port_of_hop, wire_time};
+use crate::moment::{Arrivals, Moment};
 use crate::port::Port;
 use crate::port::places::has_started;
 use crate::row::Row;
-use crate::row::acts::{any_due, land};
+use crate::row::acts::any_due;
 use egress::clock::Clock;
 use egress::selection::Selection;
 use gates::timetable::Timetable;
@@ -41,7 +42,7 @@ pub(crate) fn step_rows<S>(rows: &mut [Row], plan: &CheckedPlan, ports: &[Port<S
     ensures { rows.new ≡ over (λ f r. row_departed (checked_plan plan.now) t (λ p. slice_index_or (map started_of ports.now) p None) f (row_landed (checked_plan plan.now) t f r)) 0 rows.old }
 {
     for (f, row) in rows.iter_mut().enumerate() {
-        land(row, plan, t, f);
+        row.land(plan, t, f);
         depart(row, plan, ports, t, f);
     }
 }
@@ -59,11 +60,19 @@ pub(crate) fn step_ports<S: Selection, K: Clock>(
     requires within { t < 2 ^ 49 }
     ensures { map seen ports.new ≡ over (λ p x. port_through (meaning S.Selection.held S.Selection.pick S.Selection.passed) (checked_plan plan.now) t rows.now (followed timetables.now p) (reads K.Clock.reading clocks.now p t) p x.0) 0 (map seen ports.old) }
 {
-    let due = any_due(rows, t);
+    let any = any_due(rows, t);
+    let arrivals = Arrivals { plan, rows, t, any };
     for (p, port) in ports.iter_mut().enumerate() {
         let gates = &timetables[p];
-        let l = clocks[p].read(t);
-        port.join(plan, rows, due, t, p);
-        port.step(plan, gates, gates.octet(l), t, l);
+        let reading = clocks[p].read(t);
+        let octet = gates.octet(reading);
+        port.join(&arrivals, p);
+        port.step(&Moment {
+            plan,
+            gates,
+            t,
+            reading,
+            octet,
+        });
     }
 }

@@ -14,4 +14,4 @@ pub returns-else-class-eq7 : goal.returns-else-class-eq7
 unfolding port_of
 returns-else-class-eq7 g c =
     let s = c.args.self.now in let k = c.args.class in
-    ap (ltb 0) c.line_len.ensures ∙ sym (cond-false (eqb k 7) (ltb 0 (length (flows s.scheduled))) (ltb 0 (length (get_or (map frames s.ordinary) k []))) (ne_eqb k 7 c.if-class-eq7.false))
+    ap (ltb 0) (c.line_len.ensures ∙ ap (λ i. length (get_or (map frames s.ordinary) i [])) c.from.ensures) ∙ sym (cond-false (eqb k 7) (ltb 0 (length (flows s.scheduled))) (ltb 0 (length (get_or (map frames s.ordinary) k []))) (ne_eqb k 7 c.if-class-eq7.false))

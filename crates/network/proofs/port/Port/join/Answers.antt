@@ -6,4 +6,4 @@ use Rattle.network.proofs.port.Port.join.Goals as goal
 
 pub returns : goal.returns
 unfolding port_of joining
-returns g c = port_path _ (joining (checked_plan c.args.plan.now) c.args.t c.args.rows.now c.args.p (port_of c.args.self.now)) c.join_due.ensures refl refl refl refl
+returns g c = let a = c.args.arrivals.now in port_path _ (joining (checked_plan a.plan.now) a.t a.rows.now c.args.p (port_of c.args.self.now)) c.join.ensures refl refl refl refl

@@ -1,20 +1,6 @@
-use Rattle.std.proofs.Common.{◌≡◌, ℕ, Bool, ap, ◌∙◌, arith}
-use Rattle.network.specs.Ports.{mask_below}
+use Rattle.std.proofs.Common.{rules}
 use Rattle.network.specs.Steps.{port_of, has_waiting}
-use Rattle.network.proofs.Masks.{mask_below_lt, mask_start, mask_step}
 use Rattle.network.proofs.port.Port.waiting.Goals as goal
 
-pub loop-c-init : goal.loop-c-init
-loop-c-init g c = mask_start (has_waiting (port_of c.args.self.now))
-
-pub with_class-mask-requires : goal.with_class-mask-requires
-with_class-mask-requires g c = (omega arith, omega (arith, c.loop-c.invariant, mask_below_lt c.loop-c.c (has_waiting (port_of c.args.self.now))))
-
-pub loop-c-preserved : goal.loop-c-preserved
-loop-c-preserved g c = mask_step c.loop-c.c (has_waiting (port_of c.args.self.now)) c.loop-c.mask _ _ c.loop-c.invariant c.has_waiting.ensures c.with_class-mask.ensures
-
 pub returns : goal.returns
-returns g c =
-    let q : ℕ → Bool = has_waiting (port_of c.args.self.now) in
-    let e : c.loop-c.c ≡ 8 = omega arith in
-    c.loop-c.invariant ∙ ap (λ n. mask_below n q) e
+returns g c = c.classes.ensures (has_waiting (port_of c.args.self.now)) (λ k b l p. search rules)

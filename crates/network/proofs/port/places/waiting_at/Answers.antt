@@ -1,15 +1,14 @@
-use Rattle.std.proofs.Common.{sym, ap, ◌∙◌, arith}
+use Rattle.std.proofs.Common.{arith, ◌≡◌, map, get_or, sym, ◌∙◌}
+use Rattle.std.proofs.lemmas.Grind.{common_steps}
 use Rattle.network.specs.declared.port.Port.{Port}
 use Rattle.network.specs.Ports.{line_length}
 use Rattle.network.specs.Steps.{port_of}
-use Rattle.network.proofs.Places.{at_or_seen, at_or_unseen}
+use Rattle.network.proofs.Places.{at_or_map}
 use Rattle.network.proofs.port.places.waiting_at.Goals as goal
-
-pub returns-then-p-ports : goal.returns-then-p-ports
-returns-then-p-ports g c = sym (at_or_unseen port_of (line_length c.args.class) 0 c.args.ports.now c.args.p (omega arith))
 
 pub returns : goal.returns
 unfolding port_of
 returns g c =
-    let x = c.index-ports-p.result in
-    c.line_len.ensures ∙ sym (at_or_seen port_of (line_length c.args.class) 0 c.args.ports.now c.args.p x (omega arith) ∙ ap (λ (y : Port g.row.S.Denot). line_length c.args.class (port_of y)) (sym c.index-ports-p.is))
+    let k = c.args.class in let xs = c.args.ports.now in
+    let e : c.map_or.result ≡ get_or (map (λ (x : Port g.row.S.Denot). line_length k (port_of x)) xs) c.args.p 0 = grind (arith, common_steps) in
+    e ∙ sym (at_or_map port_of (line_length k) 0 xs c.args.p)

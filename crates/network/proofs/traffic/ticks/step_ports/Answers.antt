@@ -20,8 +20,8 @@ loop-p-preserved g c =
     let at = ap (λ k. g.K.Clock.reading k t) c.index-clocks-p.is ∙ sym (reads_at g.K.Clock.reading ks p t c.index-clocks-p.result (omega (arith, c.requires.sized))) in
     seen_turn (λ p x. port_through K P t rows (followed gs p) (reads g.K.Clock.reading ks p t) p x.0) seen (map seen c.args.ports.now) c.loop-p.ports p x _
     (omega (arith, length-map c.args.ports.now seen)) (omega arith) c.loop-p.invariant
-    (through_by K P t rows (octets c.index-timetables-p.result) (followed gs p) c.read-l.result (reads g.K.Clock.reading ks p t) p (port_of (get_or c.loop-p.ports p x)) _ _
-    c.join.ensures c.step.ensures (ap octets c.index-timetables-p.is ∙ sym os) (c.read-l.ensures ∙ at))
+    (through_by K P t rows (octets c.index-timetables-p.result) (followed gs p) c.read-reading.result (reads g.K.Clock.reading ks p t) p (port_of (get_or c.loop-p.ports p x)) _ _
+    c.join.ensures c.step.ensures (ap octets c.index-timetables-p.is ∙ sym os) (c.read-reading.ensures ∙ at))
 
 pub returns : goal.returns
 returns g c = over_all _ (map seen c.args.ports.now) _ c.loop-p.p c.loop-p.invariant (omega (arith, length-map c.args.ports.now seen))
