@@ -1,6 +1,6 @@
 -- Lists altered at one place.
 use Rattle.std.proofs.Common.{◌≡◌, ℕ, zero, suc, ◌<◌, ◌≤◌, List, [], ◌∷◌, map, length, get_or, set, sym, refl, ap, ◌∙◌, arith}
-use Rattle.std.proofs.lemmas.List.{get_or-map, length-map, map-set}
+use Rattle.std.proofs.lemmas.List.{get_or-map, length-map, map-set, set-get_or}
 use Rattle.network.specs.Ports.{at_place}
 use Rattle.network.specs.Tables.{at_or}
 
@@ -23,6 +23,10 @@ module _ {A : Type 0} where
 -- the same of a list seen through V
 pub place_seen : {X Y : Type 0} (V : X → Y) (p : ℕ) (f : Y → Y) (xs : List X) (x d : X) → p < length xs → V x ≡ f (V (get_or xs p d)) → map V (set xs p x) ≡ at_place p f (map V xs)
 place_seen V p f xs x d h e = map-set V xs p x ∙ place_set p f (map V xs) (V x) (V d) (omega (arith, length-map xs V)) (e ∙ ap f (sym (get_or-map V xs p d (V d) h)))
+
+-- what an element put at a place keeps
+pub kept_at : {X Y : Type 0} (V : X → Y) (p : ℕ) (xs : List X) (x d : X) → p < length xs → V x ≡ V (get_or xs p d) → map V (set xs p x) ≡ map V xs
+kept_at V p xs x d h e = map-set V xs p x ∙ ap (set (map V xs) p) (e ∙ sym (get_or-map V xs p d (V d) h)) ∙ set-get_or (map V xs) p (V d)
 
 -- what is read at a place of a list seen through V
 pub at_or_map : {X A B : Type 0} (V : X → A) (g : A → B) (e : B) (xs : List X) (p : ℕ) → at_or g e (map V xs) p ≡ get_or (map (λ x. g (V x)) xs) p e

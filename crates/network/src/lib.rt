@@ -1,6 +1,7 @@
 // Networks that run a checked plan: what they are, what their calls do, and what is promised of every run.
 #![tactic(auto)]
 
+pub mod clocked;
 pub mod figures;
 pub mod flight;
 mod lookups;

@@ -26,6 +26,7 @@ pub(crate) struct Arrivals<'a> {
     pub(crate) rows: &'a [Row],
     pub(crate) t: u64,
     pub(crate) any: bool,
+    ghost early: { t < 2 ^ 49 },
     ghost few: { length rows.now ≤ 16 },
     ghost told: { any ≡ some_due t rows.now },
 }

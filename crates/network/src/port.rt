@@ -7,8 +7,8 @@ use egress::ordinary::FrameLine;
 use egress::scheduled::FlowLine;
 
 pub mod acts;
+pub mod calls;
 pub mod lines;
-pub mod places;
 
 #[derive(Drop)]
 pub struct Port<S> {
