@@ -1,10 +1,10 @@
-use Rattle.network.specs.Lawful.{Meaning, meaning}
-use Rattle.std.proofs.Common.{◌≡◌, rules, ◌<◌, ◌≤◌, true, false, ltb, sym, ap, ◌∙◌}
+use Rattle.network.specs.Lawful.{meaning}
+use Rattle.std.proofs.Common.{◌<◌, ◌≤◌, sym, ap, ◌∙◌}
 use Rattle.std.proofs.lemmas.Bool.{ltb-true, ltb-false}
 use Rattle.schedule.specs.Checks.{checked_plan}
 use Rattle.gates.specs.Lookup.{octets}
 use Rattle.network.specs.Ports.{flow_sent}
-use Rattle.network.specs.Steps.{port_of, ready, sending}
+use Rattle.network.specs.Steps.{port_of, sending}
 use Rattle.network.proofs.Portions.{choosing_busy, choosing_free}
 use Rattle.network.proofs.port.Port.choose.Goals as goal
 
