@@ -1,5 +1,6 @@
 -- Lists altered at one place.
-use Rattle.std.proofs.Common.{◌≡◌, ℕ, zero, suc, ◌<◌, ◌≤◌, List, [], ◌∷◌, map, length, get_or, set, sym, refl, ap, ◌∙◌, arith}
+use Rattle.std.proofs.Common.{◌≡◌, ℕ, zero, suc, ◌<◌, ◌≤◌, Bool, true, false, List, [], ◌∷◌, map, length, get_or, set, sym, refl, ap, ◌∙◌, inl, inr, arith}
+use Rattle.std.proofs.lemmas.Bool.{cases_lt}
 use Rattle.std.proofs.lemmas.List.{get_or-map, length-map, map-set, set-get_or}
 use Rattle.network.specs.Ports.{at_place}
 use Rattle.network.specs.Tables.{at_or}
@@ -19,6 +20,10 @@ module _ {A : Type 0} where
   length_place p f [] = refl
   length_place zero f (x ∷ xs) = refl
   length_place (suc p) f (x ∷ xs) = ap suc (length_place p f xs)
+
+-- where nothing is found the list has ended
+pub past_end : (k n : ℕ) → (k < n → ◌≡◌ {A = Bool} false true) → n ≤ k
+past_end k n none = elim (cases_lt k n) [ inl h ↦ absurd (let z : ◌≡◌ {A = Bool} false true = none h in cc) | inr h ↦ h ]
 
 -- the same of a list seen through V
 pub place_seen : {X Y : Type 0} (V : X → Y) (p : ℕ) (f : Y → Y) (xs : List X) (x d : X) → p < length xs → V x ≡ f (V (get_or xs p d)) → map V (set xs p x) ≡ at_place p f (map V xs)

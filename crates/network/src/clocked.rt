@@ -3,11 +3,10 @@ use crate::port::Port;
 use gates::timetable::Timetable;
 
 pub mod acts;
-pub mod places;
 
 #[derive(Drop)]
 pub struct ClockedPort<S, K> {
-    port: Port<S>,
-    gates: Timetable,
-    clock: K,
+    pub(crate) port: Port<S>,
+    pub(crate) gates: Timetable,
+    pub(crate) clock: K,
 }

@@ -5,7 +5,7 @@ ghost use Rattle.network.specs.Ports.{line_length, carried};
 ghost use Rattle.network.specs.Steps.{port_of, adding, lining};
 
 use super::Port;
-use super::lines::{add_flow, add_frame, line_len};
+use super::lines::{add_flow, line_len};
 use egress::ordinary::Frame;
 
 impl<S> Port<S> {
@@ -21,7 +21,7 @@ impl<S> Port<S> {
         requires { (class < 7) × (line_length class (port_of self.old) < 8) }
         ensures { port_of self.new ≡ lining class frame (port_of self.old) }
     {
-        add_frame(&mut self.ordinary, class, frame);
+        let _ = self.ordinary[class].push(frame);
     }
 
     // Whether it has put the frame of flow f on the wire in the tick run last.

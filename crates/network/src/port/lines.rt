@@ -9,7 +9,7 @@ ghost use Rattle.network.specs.Ports.{at_place, listed, mask_of, time_of_first, 
 ghost use Rattle.network.specs.Tables.{flight_in};
 
 use crate::moment::Arrivals;
-use egress::ordinary::{Frame, FrameLine};
+use egress::ordinary::FrameLine;
 use egress::scheduled::FlowLine;
 
 // A mask of classes below `class`, with `class` or without.
@@ -80,14 +80,6 @@ pub(crate) fn drop_first(lines: &mut [FrameLine; 7], class: usize)
     if class < 7 {
         let _ = lines[class].take();
     }
-}
-
-// A frame joins the line of an ordinary class in which there is room.
-pub(crate) fn add_frame(lines: &mut [FrameLine; 7], class: usize, frame: Frame)
-    requires { (class < 7) × (length (slice_index_or (map frames lines.old) class []) < 8) }
-    ensures { map frames lines.new ≡ at_place class (λ line. line ++ frame ∷ []) (map frames lines.old) }
-{
-    let _ = lines[class].push(frame);
 }
 
 // How many frames of an ordinary class wait.

@@ -1,9 +1,8 @@
 // What the calls and the tick do to the rows of the flows.
-ghost use Rattle.std.specs.Prelude.{◌≡◌, ℕ, ◌<◌, length, slice_index_or};
+ghost use Rattle.std.specs.Prelude.{◌≡◌};
 ghost use Rattle.schedule.specs.Checks.{checked_plan};
 ghost use Rattle.network.specs.Flows.{widened};
-ghost use Rattle.network.specs.Ports.{at_place};
-ghost use Rattle.network.specs.Tables.{blank, flight_in, row_landed, row_accepted, row_tells};
+ghost use Rattle.network.specs.Tables.{row_landed, row_accepted, row_tells};
 ghost use Rattle.network.specs.Due.{some_due};
 
 use super::{FlowRecord, Row, Transits};
@@ -58,7 +57,7 @@ impl Row {
     }
 
     // An offer is accepted at tick t.
-    fn accept(&mut self, t: u64)
+    pub(crate) fn accept(&mut self, t: u64)
         ensures { self.new ≡ row_accepted t self.old }
     {
         self.flight = Flight::Waiting { hop: 0, release: t };
@@ -66,7 +65,7 @@ impl Row {
     }
 
     // The record of the flow.
-    fn tell(&self) -> FlowRecord
+    pub(crate) fn tell(&self) -> FlowRecord
         ensures { result ≡ row_tells self.now }
     {
         FlowRecord {
@@ -83,26 +82,4 @@ pub(crate) fn any_due(rows: &[Row], t: u64) -> bool
     ensures { result ≡ some_due t rows.now }
 {
     rows.iter().any(|row| row.flight.is_due(t))
-}
-
-// An offer of flow f is accepted at tick t.
-pub(crate) fn accept(rows: &mut [Row], f: usize, t: u64)
-    requires { f < length rows.old }
-    ensures { rows.new ≡ at_place f (row_accepted t) rows.old }
-{
-    rows[f].accept(t);
-}
-
-// The frame of flow f.
-pub(crate) fn flight_of(rows: &[Row], f: usize) -> Flight
-    ensures { result ≡ flight_in rows.now f }
-{
-    rows.get(f).map_or(Flight::Idle, |row| row.flight)
-}
-
-// The record of flow f.
-pub(crate) fn tell(rows: &[Row], f: usize) -> FlowRecord
-    ensures { result ≡ row_tells (slice_index_or rows.now f blank) }
-{
-    rows.get(f).copied().unwrap_or_default().tell()
 }

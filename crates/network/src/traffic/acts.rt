@@ -10,11 +10,10 @@ ghost use Rattle.network.specs.Traffic.{tables_of, guides_of, timetables, clocks
 use super::Traffic;
 use super::ticks::step_rows;
 use crate::clocked::acts::run_ports;
-use crate::clocked::places::{accept_at, carried_at, enqueue_at, waiting_at};
 use crate::flight::Flight;
 use crate::lookups::port_of_hop;
 use crate::moment::Arrivals;
-use crate::row::acts::{accept, any_due, flight_of, tell};
+use crate::row::acts::any_due;
 use crate::row::{FlowRecord, Row};
 use egress::clock::Clock;
 use egress::ordinary::Frame;
@@ -44,21 +43,25 @@ impl<S, K> Traffic<S, K> {
         ensures view { tables_of self.exit.now ≡ offered_table (checked_plan plan.now) f (tables_of self.entry.now) }
         ensures kept { (self.exit.now.now ≡ self.entry.now.now) × (vec_len self.exit.now.rows ≡ vec_len self.entry.now.rows) × (vec_len self.exit.now.ports ≡ vec_len self.entry.now.ports) × (guides_of self.exit.now ≡ guides_of self.entry.now) }
     {
-        let p = port_of_hop(plan, f, 0);
-        accept_at(self.ports.as_mut_slice(), p, f as u8);
-        accept(self.rows.as_mut_slice(), f, self.now);
+        self.rows[f].accept(self.now);
+        if let Some(at) = self.ports.get_mut(port_of_hop(plan, f, 0)) {
+            at.port.accept(f as u8);
+        }
     }
 
     // An ordinary frame joins the line of a port and class.
     pub(crate) fn take_frame(&mut self, p: usize, class: usize, frame: Frame)
-        requires { (p < vec_len self.now.ports) × (class < 7) × (at_or (line_length class) 0 (tables_of self.now).ports p < 8) }
+        requires { (class < 7) × (at_or (line_length class) 0 (tables_of self.now).ports p < 8) }
         ensures view { tables_of self.exit.now ≡ lined_table p class frame (tables_of self.entry.now) }
         ensures kept { (self.exit.now.now ≡ self.entry.now.now) × (vec_len self.exit.now.rows ≡ vec_len self.entry.now.rows) × (vec_len self.exit.now.ports ≡ vec_len self.entry.now.ports) × (guides_of self.exit.now ≡ guides_of self.entry.now) }
     {
-        enqueue_at(self.ports.as_mut_slice(), p, class, frame);
+        if let Some(at) = self.ports.get_mut(p) {
+            at.port.enqueue(class, frame);
+        }
     }
 
     // The tick to be run next.
+    #[tactic(auto, unfolding(crate::specs::Traffic::tables_of))]
     pub(crate) fn tick(&self) -> u64
         ensures { result ≡ (tables_of self.entry.now).now }
     {
@@ -66,31 +69,33 @@ impl<S, K> Traffic<S, K> {
     }
 
     // The frame of flow f.
+    #[tactic(auto, unfolding(crate::specs::Traffic::tables_of))]
     pub(crate) fn flight(&self, f: usize) -> Flight
         ensures { result ≡ flight_in (tables_of self.entry.now).rows f }
     {
-        flight_of(self.rows.as_slice(), f)
+        self.rows.get(f).map_or(Flight::Idle, |row| row.flight)
     }
 
     // The record of flow f.
+    #[tactic(auto, unfolding(crate::specs::Traffic::tables_of))]
     pub(crate) fn record(&self, f: usize) -> FlowRecord
         ensures { result ≡ row_tells (slice_index_or (tables_of self.entry.now).rows f blank) }
     {
-        tell(self.rows.as_slice(), f)
+        self.rows.get(f).copied().unwrap_or_default().tell()
     }
 
     // How many frames of an ordinary class wait at port p.
     pub(crate) fn queued(&self, p: usize, class: usize) -> usize
         ensures { result ≡ at_or (line_length class) 0 (tables_of self.entry.now).ports p }
     {
-        waiting_at(self.ports.as_slice(), p, class)
+        self.ports.get(p).map_or(0, |at| at.port.queued(class))
     }
 
     // What the wire of port p carries: the class and its last tick.
     pub(crate) fn wire(&self, p: usize) -> Option<(u8, u64)>
         ensures { result ≡ at_or (carried (tables_of self.entry.now).now) None (tables_of self.entry.now).ports p }
     {
-        carried_at(self.ports.as_slice(), p, self.now)
+        self.ports.get(p).and_then(|at| at.port.carries(self.now))
     }
 
     // The flows of a new plan begin with blank rows.

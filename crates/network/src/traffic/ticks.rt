@@ -1,15 +1,22 @@
 // One tick of every row.
 ghost use Rattle.std.specs.Prelude.{◌≡◌, ℕ, ◌^◌, ◌<◌, map, None, slice_index_or};
 ghost use Rattle.schedule.specs.Checks.{checked_plan};
+ghost use Rattle.network.specs.Flows.{is_flow};
 ghost use Rattle.network.specs.Tables.{over, row_landed, row_departed};
 ghost use Rattle.network.specs.Clocked.{started_in};
 
 use crate::clocked::ClockedPort;
-use crate::clocked::places::has_started;
 use crate::flight::Flight;
 use crate::lookups::{link_delay, port_of_hop, wire_time};
 use crate::row::Row;
 use schedule::checked::CheckedPlan;
+
+// Whether port p has put the frame of flow f on the wire in the tick run last.
+fn has_started<S, K>(ports: &[ClockedPort<S, K>], p: usize, f: usize) -> bool
+    ensures { result ≡ is_flow (slice_index_or (map started_in ports.now) p None) f }
+{
+    ports.get(p).is_some_and(|at| at.port.has_started(f))
+}
 
 // Step 2 of tick t, for flow f: its frame goes if the port where it waits has put it on the wire.
 fn depart<S, K>(row: &mut Row, plan: &CheckedPlan, ports: &[ClockedPort<S, K>], t: u64, f: usize)

@@ -1,31 +1,35 @@
-use Rattle.std.proofs.Common.{◌≡◌, List, map, length, vec_items, sym, refl, ap, ◌∙◌, arith}
-use Rattle.std.proofs.lemmas.List.{with_items_is, length-map}
+use Rattle.std.proofs.Common.{◌<◌, ◌≤◌, List, map, length, vec_items, sym, refl, ap, ◌∙◌, arith}
+use Rattle.std.proofs.lemmas.List.{length-map}
 use Rattle.network.specs.declared.clocked.ClockedPort.{ClockedPort}
-use Rattle.network.specs.Ports.{at_place, with_frame, line_length}
-use Rattle.network.specs.Tables.{at_or}
+use Rattle.network.specs.Ports.{with_frame, line_length}
+use Rattle.network.specs.Steps.{lining}
 use Rattle.network.specs.Clocked.{port_in, guide_of}
 use Rattle.network.specs.Traffic.{tables_of, guides_of, lined_table}
-use Rattle.network.proofs.Places.{length_place}
+use Rattle.network.proofs.Places.{place_seen, place_none, past_end, kept_at, at_or_seen}
 use Rattle.network.proofs.traffic.Traffic.take_frame.Goals as goal
 
-pub enqueue_at-requires : goal.enqueue_at-requires
+pub enqueue-requires : goal.enqueue-requires
 unfolding tables_of
-enqueue_at-requires g c =
-    let s = c.args.self.now in
-    let e = ap (λ (l : List (ClockedPort g.row.S.Denot g.row.K.Denot)). at_or (line_length c.args.class) 0 (map port_in l) c.args.p) c.as_mut_slice.ensures.value in
-    (omega (arith, c.requires.0, c.as_mut_slice.ensures.len), c.requires.1, omega (arith, c.requires.2, e))
+enqueue-requires g c =
+    let s = c.args.self.now in let x = c.in-Some.at.now in
+    let h : c.args.p < length (vec_items s.ports) = omega (arith, c.in-Some.ensures.variant.0 refl, s.ports.ok.0) in
+    (c.requires.0, omega (arith, c.requires.1, at_or_seen port_in (line_length c.args.class) 0 (vec_items s.ports) c.args.p x h, ap (λ (y : ClockedPort g.row.S.Denot g.row.K.Denot). line_length c.args.class (port_in y)) c.in-Some.ensures.value))
 
-pub returns : goal.returns
-unfolding tables_of guides_of lined_table
-returns g c =
-    let s = c.args.self.now in
-    let ys : List (ClockedPort g.row.S.Denot g.row.K.Denot) = c.enqueue_at.new.ports in
-    let F = with_frame c.args.class c.args.frame in
-    let a : map port_in ys ≡ at_place c.args.p F (map port_in (vec_items s.ports))
-    = c.enqueue_at.ensures.lines ∙ ap (λ (l : List (ClockedPort g.row.S.Denot g.row.K.Denot)). at_place c.args.p F (map port_in l)) c.as_mut_slice.ensures.value in
-    let n : length ys ≡ s.ports.len = sym (length-map ys port_in) ∙ ap length a ∙ length_place c.args.p F (map port_in (vec_items s.ports)) ∙ length-map (vec_items s.ports) port_in ∙ sym s.ports.ok.0 in
-    let e = with_items_is s.ports ys n in
+pub returns-in-Some : goal.returns-in-Some
+unfolding tables_of guides_of lined_table lining
+returns-in-Some g c =
+    let s = c.args.self.now in let x = c.in-Some.at.now in
+    let h : c.args.p < length (vec_items s.ports) = omega (arith, c.in-Some.ensures.variant.0 refl, s.ports.ok.0) in
+    let q = place_seen port_in c.args.p (lining c.args.class c.args.frame) (vec_items s.ports) _ x h (c.enqueue.ensures ∙ ap (λ (y : ClockedPort g.row.S.Denot g.row.K.Denot). lining c.args.class c.args.frame (port_in y)) c.in-Some.ensures.value) in
     record {
-      view = λ i. record { now = s.now; rows = vec_items s.rows; ports = (ap (map port_in) e ∙ a) i };
-      kept = (refl, refl, refl, ap (map guide_of) e ∙ c.enqueue_at.ensures.kept ∙ ap (map guide_of) c.as_mut_slice.ensures.value);
+      view = λ i. record { now = s.now; rows = vec_items s.rows; ports = q i };
+      kept = (refl, refl, refl, kept_at guide_of c.args.p (vec_items s.ports) _ x h (ap (λ (y : ClockedPort g.row.S.Denot g.row.K.Denot). guide_of y) c.in-Some.ensures.value));
     }
+
+pub returns-in_default : goal.returns-in_default
+unfolding tables_of guides_of lined_table
+returns-in_default g c =
+    let s = c.args.self.now in let k = c.args.p in
+    let past : s.ports.len ≤ k = past_end k s.ports.len c.in_default.ensures.variant.1 in
+    let q = place_none k (with_frame c.args.class c.args.frame) (map port_in (vec_items s.ports)) (omega (arith, length-map (vec_items s.ports) port_in, s.ports.ok.0)) in
+    record { view = λ i. record { now = s.now; rows = vec_items s.rows; ports = sym q i }; kept = (refl, refl, refl, refl) }
