@@ -1,4 +1,5 @@
 // What the calls do at a port, and what is read of it.
+#![tactic(auto, unfolding(crate::specs::Steps::port_of, crate::specs::Steps::adding, crate::specs::Steps::lining))]
 ghost use Rattle.std.specs.Prelude.{◌≡◌, ◌<◌};
 ghost use Rattle.network.specs.Flows.{is_flow};
 ghost use Rattle.network.specs.Ports.{line_length, carried};
@@ -32,7 +33,6 @@ impl<S> Port<S> {
     }
 
     // How many frames of an ordinary class wait.
-    #[tactic(auto, unfolding(crate::specs::Steps::port_of))]
     pub(crate) fn queued(&self, class: usize) -> usize
         ensures { result ≡ line_length class (port_of self.now) }
     {
@@ -40,7 +40,6 @@ impl<S> Port<S> {
     }
 
     // What the wire carries, with the tick to be run: the class and its last tick.
-    #[tactic(auto, unfolding(crate::specs::Steps::port_of))]
     pub(crate) fn carries(&self, t: u64) -> Option<(u8, u64)>
         ensures { result ≡ carried t (port_of self.now) }
     {
