@@ -14,7 +14,8 @@ use Rattle.network.specs.Ports.{Port, at_place, with_frame, listed, joined_by, j
 use Rattle.network.specs.Functions.{Core, put, extremes, after_joining, choice, ticked, offered, afresh, functions}
 use Rattle.network.specs.Tables.{Tables, blank, flight_in, counted, row_landed, row_departed, row_accepted, over, port_through, port_part, flow_part, ticked_tables, offered_table, fresh_tables, tables}
 use Rattle.network.specs.Shows.{RowShows}
-use Rattle.network.proofs.Overs.{length_over, over_at, length_place, place_at, listed_same}
+use Rattle.network.proofs.Overs.{length_over, over_at, listed_same}
+use Rattle.network.proofs.Places.{length_place, place_at}
 
 -- the tables show frames and ports of the flows and ports of a plan; and a flow has accepted at most one frame a tick, and delivered at most one, so that no count comes to its end
 pub record Alike {S : Type 0} (P : Plan) (x : Tables S) (y : Core S) : Type 0 where

@@ -12,7 +12,7 @@ use Rattle.network.specs.Calls.{Machine, Network, Call, offer, queue, read_recor
 use Rattle.network.specs.Functions.{Core, ticked, afresh, functions, new}
 use Rattle.network.specs.Tables.{Tables, blank, fresh_tables, tables, new_tables}
 use Rattle.network.specs.Shows.{Shows, TablesShow}
-use Rattle.network.proofs.Overs.{or_at}
+use Rattle.network.proofs.Places.{or_at}
 use Rattle.network.proofs.Alike.{Alike, blank_shows, ticked_alike, offered_alike, lined_alike, fresh_alike}
 
 -- a plan that is to come has as many ports

@@ -1,7 +1,6 @@
 use Rattle.std.proofs.Common.{◌<◌, ◌≤◌, [], ◌∷◌, map, length, vec_items, sym, refl, ap, ◌∙◌, arith}
 use Rattle.std.proofs.lemmas.List.{length-map}
 use Rattle.network.specs.declared.clocked.ClockedPort.{ClockedPort}
-use Rattle.network.specs.declared.row.Row.{Row}
 use Rattle.network.specs.Ports.{at_place, joined_by}
 use Rattle.network.specs.Tables.{row_accepted, offered_table}
 use Rattle.network.specs.Steps.{adding}
