@@ -14,6 +14,7 @@ use Rattle.network.specs.Ports.{Port, at_place, with_frame, listed, joined_by, j
 use Rattle.network.specs.Functions.{Core, put, extremes, after_joining, choice, ticked, offered, afresh, functions}
 use Rattle.network.specs.Tables.{Tables, blank, flight_in, counted, row_landed, row_departed, row_accepted, over, port_through, port_part, flow_part, ticked_tables, offered_table, fresh_tables, tables}
 use Rattle.network.specs.Shows.{RowShows}
+use Rattle.network.proofs.Keeps.{logged}
 use Rattle.network.proofs.Overs.{length_over, over_at, listed_same}
 use Rattle.network.proofs.Places.{length_place, place_at}
 
@@ -27,10 +28,6 @@ pub record Alike {S : Type 0} (P : Plan) (x : Tables S) (y : Core S) : Type 0 wh
   pub near : y.now ≤ 2 ^ 48
   pub offers : (f : ℕ) → f < flow_count P → length (y.accepted f) ≤ y.now + cond (released_at y.now (y.flight f)) 1 0
   pub deliveries : (f : ℕ) → f < flow_count P → length (y.arrived f) ≤ y.now
-
--- the log of deliveries after a tick
-abbrev logged : Plan → ℕ → ℕ → Flight → List (ℕ × ℕ) → List (ℕ × ℕ)
-logged P t f x l = cond (arrives P t f x) (span x ∷ l) l
 
 counts_more : (n : ℕ) → n ≤ 2 ^ 48 + 1 → counted n ≡ suc n
 counts_more n h = omega arith

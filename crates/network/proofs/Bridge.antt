@@ -13,6 +13,7 @@ use Rattle.network.specs.Functions.{Core, ticked, afresh, functions, new}
 use Rattle.network.specs.Tables.{Tables, blank, fresh_tables, tables, new_tables}
 use Rattle.network.specs.Shows.{Shows, TablesShow}
 use Rattle.network.proofs.Places.{or_at}
+use Rattle.network.proofs.Accepted.{passes}
 use Rattle.network.proofs.Alike.{Alike, blank_shows, ticked_alike, offered_alike, lined_alike, fresh_alike}
 
 -- a plan that is to come has as many ports
@@ -43,10 +44,6 @@ level C g n m l = subst (λ (c : Plan × ℕ × Transition). C (whole c n.core) 
 both_like : {S : Type 0} (b : Bool) (n n' : Network (Tables S)) (m m' : Network (Core S)) → Like n m → Like n' m' → Like (cond b n n') (cond b m m')
 both_like true n n' m m' l l' = l
 both_like false n n' m m' l l' = l'
-
-passes : (b : Bool) (k : ℕ) (o : Option ℕ) → unless b k o ≡ None → (b ≡ true) × (o ≡ None)
-passes true k o e = (refl, e)
-passes false k o e = let z : ◌≡◌ {A = ℕ} 0 1 = cc in absurd (omega arith)
 
 fails : (b : Bool) (k : ℕ) (o o' : Option ℕ) → b ≡ false → unless b k o ≡ unless b k o'
 fails b k o o' e = cond-false b o (Some k) e ∙ sym (cond-false b o' (Some k) e)

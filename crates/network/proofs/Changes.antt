@@ -221,7 +221,7 @@ module _ (P₀ : Plan) (ρ : ℕ → ℕ → ℕ) (near : ClocksNear P₀.error 
     settles : (n : Network (Core S)) → Ok P₀ ρ n → (tr : Transition) → in_order tr settle ≡ true → Sound n.plan n.base tr → Inv n.plan n.base tr ρ n.core → settle_refused n.plan n.base tr n.core.now ≡ None
         → Fit n.plan × Inv n.plan n.base steady ρ n.core
     settles n ok steady o s i e = absurd (false≢true o)
-    settles n ok (pending Q T) o s i e = let z : ◌≡◌ {A = ℕ} 0 1 = cc in absurd (omega arith)
+    settles n ok (pending Q T) o s i e = cc
     settles n ok (replaced O A) o s i e = (
       s.0,
       settle_inv n.plan n.base ρ ok.low (near_at n ok) n.core O A s

@@ -1,8 +1,7 @@
 -- Lists changed at every place, and listed numbers.
-use Rattle.std.proofs.Common.{◌≡◌, ℕ, zero, suc, ◌+◌, ◌<◌, Bool, cond, eqb, List, [], ◌∷◌, ◌++◌, length, get_or, sym, refl, ap, ◌∙◌, inl, inr, add-zero, zero-add, arith}
-use Rattle.std.proofs.lemmas.Bool.{cases_eq, eq-eqb, ne_eqb, cond-false}
-use Rattle.network.specs.Ports.{at_place, listed}
-use Rattle.network.specs.Tables.{over, at_or}
+use Rattle.std.proofs.Common.{◌≡◌, ℕ, zero, suc, ◌+◌, ◌<◌, Bool, cond, List, [], ◌∷◌, ◌++◌, length, get_or, sym, refl, ap, ◌∙◌, add-zero, zero-add, arith}
+use Rattle.network.specs.Ports.{listed}
+use Rattle.network.specs.Tables.{over}
 
 pub length_over : {A B : Type 0} (g : ℕ → A → B) (k : ℕ) (xs : List A) → length (over g k xs) ≡ length xs
 length_over g k [] = refl

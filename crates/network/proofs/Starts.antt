@@ -43,7 +43,7 @@ module _ (P : Plan) (octets : ℕ → ℕ) {S : Type 0} (t l : ℕ) (x : Port S)
       let (a, b) = available_opens c av in (c8, a, b)
     where
       go : (b : Bool) (v : Option ℕ) → cond b None v ≡ Some c → v ≡ Some c
-      go true v e = let z : ◌≡◌ {A = ℕ} 0 1 = cc in absurd (omega arith)
+      go true v e = cc
       go false v e = e
 
 module _ (P : Plan) (B : ℕ) (tr : Transition) (ρ : ℕ → ℕ → ℕ) (F : Facts P B tr) (low : P.error ≤ B) (near : ClocksNear P.error ρ) where

@@ -207,8 +207,8 @@ module _ (P₀ : Plan) (ρ : ℕ → ℕ → ℕ) (near : ClocksNear P₀.error 
         unrefused : (v w : Option ℕ) → refusal (functions ρ K) n c ≡ v → v ≡ w
             → view f (elim v [ None ↦ done (functions ρ K) n c | Some k ↦ n ]) ≡ elim w [ None ↦ view_done ρ f (view f n) c | Some k ↦ view f n ]
         unrefused None None a q = done_view n ok c a e
-        unrefused None (Some k) a q = let z : ◌≡◌ {A = ℕ} 0 1 = cc in absurd (omega arith)
-        unrefused (Some j) None a q = let z : ◌≡◌ {A = ℕ} 0 1 = cc in absurd (omega arith)
+        unrefused None (Some k) a q = cc
+        unrefused (Some j) None a q = cc
         unrefused (Some j) (Some k) a q = refl
 
         ordered : (o : Bool) → view f (cond o (elim (refusal (functions ρ K) n c) [ None ↦ done (functions ρ K) n c | Some k ↦ n ]) n)
