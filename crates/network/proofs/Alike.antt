@@ -1,4 +1,5 @@
 -- Frames and ports: the tables and the functions keep step.
+use Rattle.std.proofs.lemmas.Grind.{common_steps}
 use Rattle.std.proofs.Common.{◌≡◌, ℕ, suc, ◌+◌, ◌-◌, ◌^◌, ◌<◌, ◌≤◌, Bool, true, false, cond, eqb, ltb, List, [], ◌∷◌, map, length, get_or, replicate, Some, None, Option, sym, refl, ap, ◌∙◌, subst, inl, inr, arith}
 use mathlib.Core.Path.{fun_ext}
 use Rattle.std.proofs.lemmas.Bool.{cases_lt, cases_eq, lt-ltb, le-ltb, eq-eqb, ne_eqb, cond-true, cond-false}
@@ -33,25 +34,13 @@ counts_more : (n : ℕ) → n ≤ 2 ^ 48 + 1 → counted n ≡ suc n
 counts_more n h = omega arith
 
 delivered_same : (P : Plan) (t f : ℕ) (x : Flight) (l : List (ℕ × ℕ)) → length l ≤ 2 ^ 48 → cond (arrives P t f x) (counted (length l)) (length l) ≡ length (logged P t f x l)
-delivered_same P t f x l h = by (arrives P t f x)
-  where
-    by : (b : Bool) → cond b (counted (length l)) (length l) ≡ length (cond b (span x ∷ l) l)
-    by true = counts_more (length l) (omega arith)
-    by false = refl
+delivered_same P t f x l h = grind (arith, common_steps)
 
 delivered_more : (P : Plan) (t f : ℕ) (x : Flight) (l : List (ℕ × ℕ)) → length l ≤ t → length (logged P t f x l) ≤ t + 1
-delivered_more P t f x l h = by (arrives P t f x)
-  where
-    by : (b : Bool) → length (cond b (span x ∷ l) l) ≤ t + 1
-    by true = omega arith
-    by false = omega arith
+delivered_more P t f x l h = grind (arith, common_steps)
 
 extremes_same : (P : Plan) (t f : ℕ) (x : Flight) (l : List (ℕ × ℕ)) → cond (arrives P t f x) (Some (widened (extremes l) ((span x).1 - (span x).0))) (extremes l) ≡ extremes (logged P t f x l)
-extremes_same P t f x l = by (arrives P t f x)
-  where
-    by : (b : Bool) → cond b (Some (widened (extremes l) ((span x).1 - (span x).0))) (extremes l) ≡ extremes (cond b (span x ∷ l) l)
-    by true = refl
-    by false = refl
+extremes_same P t f x l = grind (arith, common_steps)
 
 by_place : (j k : ℕ) (Q : Bool → Type 0) → (j ≡ k → Q true) → ((j ≡ k → ⊥) → Q false) → Q (eqb j k)
 by_place j k Q u v = elim (cases_eq j k) [ inl e ↦ subst Q (sym (eq-eqb j k e)) (u e) | inr e ↦ subst Q (sym (ne_eqb j k e)) (v e) ]
@@ -60,8 +49,7 @@ pub blank_shows : (n f : ℕ) → f < n → RowShows (get_or (replicate n blank)
 blank_shows n f h = subst (λ (r : Row). RowShows r Idle [] []) (sym (get_or-replicate n f blank blank h)) (record { flight = refl; accepted_count = refl; delivered_count = refl; transits = refl })
 
 at_most_one : (b : Bool) → cond b 1 0 ≤ 1
-at_most_one true = omega arith
-at_most_one false = omega arith
+at_most_one b = grind (arith, common_steps)
 
 module _ {S : Type 0} (ρ : ℕ → ℕ → ℕ) (K : Meaning S) (P : Plan) (x : Tables S) (y : Core S) (a : Alike P x y) where
   module _ (σ : ℕ → ℕ → ℕ) (before : y.now < 2 ^ 48) where

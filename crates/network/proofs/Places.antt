@@ -1,6 +1,7 @@
 -- Lists altered at one place.
-use Rattle.std.proofs.Common.{◌≡◌, ℕ, zero, suc, ◌<◌, ◌≤◌, Bool, true, false, cond, eqb, List, [], ◌∷◌, map, length, get_or, set, sym, refl, ap, ◌∙◌, inl, inr, map-id, arith}
-use Rattle.std.proofs.lemmas.Bool.{cases_lt, cases_eq, eq-eqb, ne_eqb, cond-false}
+use Rattle.std.proofs.lemmas.Grind.{common_steps}
+use Rattle.std.proofs.Common.{◌≡◌, ℕ, zero, suc, ◌<◌, ◌≤◌, Bool, true, false, cond, eqb, List, [], ◌∷◌, map, length, get_or, set, sym, refl, ap, ◌∙◌, map-id, arith}
+use Rattle.std.proofs.lemmas.Bool.{ne_eqb, cond-false}
 use Rattle.std.proofs.lemmas.List.{get_or-map, length-map, map-set, set-get_or}
 use Rattle.network.specs.Ports.{at_place}
 use Rattle.network.specs.Tables.{at_or}
@@ -23,7 +24,7 @@ module _ {A : Type 0} where
 
 -- where nothing is found the list has ended
 pub past_end : (k n : ℕ) → (k < n → ◌≡◌ {A = Bool} false true) → n ≤ k
-past_end k n none = elim (cases_lt k n) [ inl h ↦ absurd (let z : ◌≡◌ {A = Bool} false true = none h in cc) | inr h ↦ h ]
+past_end k n none = grind (arith, common_steps)
 
 -- the same of a list seen through V
 pub place_seen : {X Y : Type 0} (V : X → Y) (p : ℕ) (f : Y → Y) (xs : List X) (x d : X) → p < length xs → V x ≡ f (V (get_or xs p d)) → map V (set xs p x) ≡ at_place p f (map V xs)
@@ -34,10 +35,7 @@ pub kept_at : {X Y : Type 0} (V : X → Y) (p : ℕ) (xs : List X) (x d : X) →
 kept_at V p xs x d h e = map-set V xs p x ∙ ap (set (map V xs) p) (e ∙ sym (get_or-map V xs p d (V d) h)) ∙ set-get_or (map V xs) p (V d)
 
 eqb_suc : (a b : ℕ) → eqb a b ≡ eqb (suc a) (suc b)
-eqb_suc a b = elim (cases_eq a b) [
-  | inl e ↦ eq-eqb a b e ∙ sym (eq-eqb (suc a) (suc b) (ap suc e))
-  | inr e ↦ ne_eqb a b e ∙ sym (ne_eqb (suc a) (suc b) (λ z. e (omega arith)))
-]
+eqb_suc a b = grind (arith, common_steps)
 
 pub place_at : {A : Type 0} (k : ℕ) (g : A → A) (xs : List A) (j : ℕ) (d : A) → j < length xs → get_or (at_place k g xs) j d ≡ cond (eqb j k) (g (get_or xs j d)) (get_or xs j d)
 place_at k g [] j d h = absurd (omega arith)
