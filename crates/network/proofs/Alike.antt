@@ -66,11 +66,7 @@ module _ {S : Type 0} (ρ : ℕ → ℕ → ℕ) (K : Meaning S) (P : Plan) (x :
     long = length_over G 0 x.ports ∙ a.links
 
     joined_same : (p : ℕ) (z : Port S) → z ≡ y.port p → joined P t (length x.rows) (flight_in x.rows) p z ≡ after_joining P y p
-    joined_same p z e =
-        let q : ℕ → Bool = λ f. joins P t p f (flight_in x.rows f) in
-        let r : ℕ → Bool = λ f. joins P y.now p f (y.flight f) in
-        let l : listed (length x.rows) q ≡ listed (flow_count P) r = ap (λ k. listed k q) a.flows ∙ listed_same (flow_count P) q r (λ f h. (λ i. joins P (a.now i) p f ((a.rows f h).flight i))) in
-        λ i. joined_by (l i) (e i)
+    joined_same p z e = grind (arith, common_steps, listed_same)
 
     both_at : (p : ℕ) (d : Port S) (o : Option ℕ) → p < port_count P → get_or both p (d, o) ≡ (passed P (σ p) K y.now (ρ p y.now) (sent P y.now (after_joining P y p) (choice ρ K P σ y p)), flow_sent (after_joining P y p) (choice ρ K P σ y p))
     unfolding port_through
@@ -124,9 +120,7 @@ module _ {S : Type 0} (ρ : ℕ → ℕ → ℕ) (K : Meaning S) (P : Plan) (x :
     }
 
   place_ports : (k : ℕ) (g : Port S → Port S) (p : ℕ) (d : Port S) → p < port_count P → get_or (at_place k g x.ports) p d ≡ put k (g (y.port k)) y.port p
-  place_ports k g p d h =
-      place_at k g x.ports p d (omega (arith, a.links)) ∙ ap (λ z. cond (eqb p k) (g z) z) (a.ports p d h)
-      ∙ by_place p k (λ b. cond b (g (y.port p)) (y.port p) ≡ cond b (g (y.port k)) (y.port p)) (λ e. ap (λ j. g (y.port j)) e) (λ _. refl)
+  place_ports k g p d h = grind (arith, common_steps, place_at, by_place)
 
   module _ (f : ℕ) (h : f < flow_count P) (fresh : released_at y.now (y.flight f) ≡ false) where
     few : length (y.accepted f) ≤ y.now

@@ -1,4 +1,5 @@
 -- An accepted change, the tick at which it comes, and settling keep the invariant; and so every run does.
+use Rattle.std.proofs.lemmas.Grind.{common_steps}
 use Rattle.std.proofs.Common.{◌≡◌, ℕ, zero, suc, ◌+◌, ◌-◌, ◌*◌, ◌%◌, ◌^◌, ◌<◌, ◌≤◌, Bool, true, false, cond, ◌&&◌, eqb, ltb, leb, List, [], ◌∷◌, get_or, replicate, Some, None, Option, sym, refl, ap, ◌∙◌, subst, inl, inr, add-zero, arith}
 use Rattle.std.specs.List.{AllByRecursion}
 use Rattle.std.proofs.lemmas.Bool.{and_parts, cases_Bool, cases_lt, cases_eq, leb-true, eqb-true, eq-eqb, ne_eqb, false≢true}
@@ -145,16 +146,10 @@ pub record Ok (P₀ : Plan) (ρ : ℕ → ℕ → ℕ) {S : Type 0} (n : Network
 
 -- what accepted calls tell
 queue_small : (P : Plan) (p c octets label waiting : ℕ) → queue_refused P p c octets label waiting ≡ None → octets ≤ 1522
-queue_small P p c octets label waiting e =
-    let (_, e1) = passes (ltb p (port_count P)) 44 (unless (leb c 6) 45 (unless (frame_allowed octets label) 46 (unless (ltb waiting 8) 47 None))) e in
-    let (_, e2) = passes (leb c 6) 45 (unless (frame_allowed octets label) 46 (unless (ltb waiting 8) 47 None)) e1 in
-    let (a, _) = passes (frame_allowed octets label) 46 (unless (ltb waiting 8) 47 None) e2 in
-    leb-true octets 1522 (and_parts (leb 64 octets) (leb octets 1522) (and_parts (within 64 1522 octets) (leb label 65535) a).0).1
+queue_small P p c octets label waiting e = grind (arith, common_steps, passes, leb-true)
 
 pub advance_fits : (t k : ℕ) → advance_refused t k ≡ None → t + k ≤ 2 ^ 48
-advance_fits t k e =
-    let (_, e1) = passes (leb k 1250000) 51 (unless (leb (t + k) (2 ^ 48)) 52 None) e in
-    leb-true (t + k) (2 ^ 48) (passes (leb (t + k) (2 ^ 48)) 52 None e1).0
+advance_fits t k e = grind (arith, common_steps, passes, leb-true)
 
 changes : (P : Plan) (B t : ℕ) (Q : Plan) (A T : ℕ) → change_refused P B t Q A T ≡ None → (Q.error ≡ P.error) × (t + 1542 + 2 * P.error ≤ hold_from P B T)
 changes P B t Q A T e =
