@@ -199,8 +199,7 @@ module _ (P₀ : Plan) (ρ : ℕ → ℕ → ℕ) (near : ClocksNear P₀.error 
 
     pub tick_now : (n : Network (Core S)) → (tick (functions ρ K) n).core.now ≡ n.core.now + 1
     unfolding tick
-    tick_now n = switched_now n.plan n.base n.transition (ticked ρ K n.plan (timetable n.plan n.base n.transition) n.core)
-        ∙ ticked_now n.core n.plan (timetable n.plan n.base n.transition)
+    tick_now n = grind (arith, common_steps, switched_now, ticked_now)
 
     pub tick_ok : (n : Network (Core S)) → Ok P₀ ρ n → n.core.now < 2 ^ 48 → Ok P₀ ρ (tick (functions ρ K) n)
     unfolding tick

@@ -1,4 +1,6 @@
 -- The promises of two networks newly started, from the guarantee and from what the tables show.
+use Rattle.std.proofs.Common.{arith}
+use Rattle.std.proofs.lemmas.Grind.{common_steps}
 use Rattle.std.proofs.Common.{◌≡◌, ℕ, zero, suc, ◌^◌, ◌<◌, ◌≤◌, cond, ◌&&◌, eqb, leb, List, [], ◌∷◌, map, length, get_or, take, Some, None, Option, sym, refl, ap, ◌∙◌, subst}
 use Rattle.std.specs.List.{AllByRecursion}
 use Rattle.std.proofs.lemmas.Bool.{and_parts, leb-true, eqb-true}
@@ -85,12 +87,7 @@ module _ {K : Type 0} (reading : K → ℕ → ℕ) (bound : K → ℕ) (near : 
 
   -- rows that show the same are the same
   row_same : (r q : Row) {x y : _} {a b : List ℕ} {k l : List (ℕ × ℕ)} → RowShows r x a k → RowShows q y b l → x ≡ y → a ≡ b → k ≡ l → r ≡ q
-  row_same r q s t e f g = λ i. record {
-    flight = (s.flight ∙ e ∙ sym t.flight) i;
-    accepted = (s.accepted_count ∙ ap length f ∙ sym t.accepted_count) i;
-    delivered = (s.delivered_count ∙ ap length g ∙ sym t.delivered_count) i;
-    transits = (s.transits ∙ ap extremes g ∙ sym t.transits) i;
-  }
+  row_same r q s t e f g = grind (arith, common_steps)
 
   module _ {S R : Type 0} (X : Meaning S) (Y : Meaning R) (lawX : Lawful X) (lawY : Lawful Y)
       (ks : List K) (n : Network (Tables S)) (cs : List Call) (fc : AllFit cs) (n' : Network (Tables S)) (rs : List Reply)

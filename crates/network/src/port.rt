@@ -14,7 +14,7 @@ pub mod lines;
 pub struct Port<S> {
     // The line of class 7.
     scheduled: FlowLine,
-    // The lines of the classes 0 to 6.
+    // The lines of the classes 0 to 6. An array, since a port has no heap.
     ordinary: [FrameLine; 7],
     wire: Wire,
     selection: S,

@@ -19,7 +19,7 @@ pub struct Row {
     pub transits: Option<Transits>,
 }
 
-/// The record of a flow, as it is read.
+/// The record of a flow, as it is read. Not a row: where the frame is stays within.
 #[derive(Clone, Copy)]
 pub struct FlowRecord {
     pub accepted: u64,

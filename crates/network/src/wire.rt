@@ -1,7 +1,7 @@
 // What is on the wire of a port.
 ghost use Rattle.std.specs.Prelude.{◌≡◌, ◌-◌, if◌then◌else◌, Some, None, nat_lt};
 
-/// The class put on the wire last, and the first tick at which the wire is free again.
+/// The class put on the wire last, and the first tick at which the wire is free again. No `Option` of the two: a wire becomes free as time goes by, with nothing done to it.
 #[derive(Clone, Copy, Default)]
 pub struct Wire {
     pub class: u8,
@@ -23,7 +23,7 @@ impl Wire {
         self.is_busy(t).then_some(self.class)
     }
 
-    // The same with its last tick.
+    // The same with its last tick: the pair that a network replies when its wire is read.
     pub(crate) fn carries(self, t: u64) -> Option<(u8, u64)>
         ensures { result ≡ (if nat_lt t self.until then Some (self.class, self.until - 1) else None) }
     {

@@ -6,7 +6,7 @@ ghost use Rattle.network.specs.Due.{reaches};
 
 use super::Flight;
 use crate::lookups::{has_hop_after, port_of_hop};
-use schedule::checked::CheckedPlan;
+use crate::moment::Arrivals;
 
 impl Flight {
     // Whether a frame comes to the end of its link at tick t.
@@ -16,13 +16,15 @@ impl Flight {
         matches!(self, Flight::Moving { reach, .. } if reach == t)
     }
 
-    // Whether the frame of flow f joins the line of port p at tick t.
-    pub(crate) fn joins(self, plan: &CheckedPlan, t: u64, p: usize, f: usize) -> bool
-        ensures { result ≡ joins (checked_plan plan.now) t p f self }
+    // Whether the frame of flow f joins the line of port p.
+    pub(crate) fn joins(self, arrivals: &Arrivals<'_>, p: usize, f: usize) -> bool
+        ensures { result ≡ joins (checked_plan arrivals.now.plan.now) arrivals.now.t p f self }
     {
         match self {
             Flight::Moving { hop, reach, .. } => {
-                reach == t && has_hop_after(plan, f, hop) && port_of_hop(plan, f, hop + 1) == p
+                reach == arrivals.t
+                    && has_hop_after(arrivals.plan, f, hop)
+                    && port_of_hop(arrivals.plan, f, hop + 1) == p
             }
             Flight::Idle | Flight::Waiting { .. } => false,
         }

@@ -1,5 +1,6 @@
 // What a tick does at a port.
 #![tactic(auto, unfolding(crate::specs::Steps::port_of, crate::specs::Steps::timing, crate::specs::Steps::joining, crate::specs::Steps::sending, crate::specs::Steps::passing, crate::specs::Steps::ready, crate::specs::Steps::choosing, crate::specs::Steps::stepping))]
+
 ghost use Rattle.network.specs.Lawful.{meaning};
 ghost use Rattle.std.specs.Prelude.{◌≡◌, ℕ, ◌+◌, ◌^◌, ◌<◌};
 ghost use Rattle.schedule.specs.Checks.{checked_plan};

@@ -1,5 +1,6 @@
 // What the calls do at a port, and what is read of it.
 #![tactic(auto, unfolding(crate::specs::Steps::port_of, crate::specs::Steps::adding, crate::specs::Steps::lining))]
+
 ghost use Rattle.std.specs.Prelude.{◌≡◌, ◌<◌};
 ghost use Rattle.network.specs.Flows.{is_flow};
 ghost use Rattle.network.specs.Ports.{line_length, carried};

@@ -20,7 +20,7 @@ fn with_class(mask: u8, class: u8, on: bool) -> u8
     if on { mask + (1 << class) } else { mask }
 }
 
-// The classes that a test admits, as a mask.
+// The classes that a test admits, as a mask. A loop: each bit that is added needs that the mask so far lies below it.
 pub(crate) fn classes<F: Fn(u8) -> bool>(admits: F) -> u8
     requires { F.IsAlwaysCallable admits }
     ensures { (q : ℕ → Bool) → ((c : ℕ) (b : Bool) → c < 8 → F.post admits c b → b ≡ q c) → result ≡ mask_of q }
@@ -56,7 +56,8 @@ pub(crate) fn join(line: &mut FlowLine, arrivals: &Arrivals<'_>, p: usize)
         return;
     }
     for (f, row) in arrivals.rows.iter().enumerate() {
-        if row.flight.joins(arrivals.plan, arrivals.t, p, f) {
+        if row.flight.joins(arrivals, p, f) {
+            // There are at most 16 flows, so that no bit is lost.
             add_flow(line, f as u8);
         }
     }

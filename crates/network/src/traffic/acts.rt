@@ -45,6 +45,7 @@ impl<S, K> Traffic<S, K> {
     {
         self.rows[f].accept(self.now);
         if let Some(at) = self.ports.get_mut(port_of_hop(plan, f, 0)) {
+            // There are at most 16 flows, so that no bit is lost.
             at.port.accept(f as u8);
         }
     }
