@@ -10,8 +10,8 @@ use Rattle.network.specs.declared.flight.Flight.{Flight}
 use Rattle.network.specs.declared.flight.Flight.TheVariants.{Idle, Waiting}
 use Rattle.network.specs.declared.row.Row.{Row}
 use Rattle.network.specs.Lawful.{Meaning, port_count}
-use Rattle.network.specs.Flows.{landed, joins, arrives, span, departed, released_at, widened}
-use Rattle.network.specs.Ports.{Port, at_place, with_frame, listed, joined_by, joined, chosen, sent, flow_sent, passed}
+use Rattle.network.specs.Flows.{landed, arrives, span, departed, released_at, widened}
+use Rattle.network.specs.Ports.{Port, at_place, with_frame, joined_by, joined, chosen, sent, flow_sent, passed}
 use Rattle.network.specs.Functions.{Core, put, extremes, after_joining, choice, ticked, offered, afresh, functions}
 use Rattle.network.specs.Tables.{Tables, blank, flight_in, counted, row_landed, row_departed, row_accepted, over, port_through, port_part, flow_part, ticked_tables, offered_table, fresh_tables, tables}
 use Rattle.network.specs.Shows.{RowShows}

@@ -9,7 +9,7 @@ use Rattle.gates.specs.Timetable.{Transition, steady, pending, replaced, timetab
 use Rattle.network.specs.Lawful.{Meaning, port_count}
 use Rattle.network.specs.Flows.{released_at, is_under_way}
 use Rattle.network.specs.Ports.{empty_port, line_length, carried}
-use Rattle.network.specs.Calls.{Machine, Network, Call, offer, queue, read_record, read_wire, advance, change, settle, recorded, carries, now_is, changes_at, refused, out_of_order, in_order, offer_refused, queue_refused, advance_refused, change_tick, same_links, change_refused, settle_refused, switched, tick, ticks, refusal, done, result, reply, after, run, replies}
+use Rattle.network.specs.Calls.{Machine, Network, Call, offer, queue, read_record, read_wire, advance, change, settle, recorded, carries, now_is, changes_at, in_order, offer_refused, queue_refused, advance_refused, change_tick, same_links, change_refused, settle_refused, switched, tick, ticks, refusal, done, result, reply, after, run, replies}
 use Rattle.network.specs.Functions.{Core, ticked, afresh, functions, new}
 use Rattle.network.specs.Tables.{Tables, blank, fresh_tables, tables, new_tables}
 use Rattle.network.specs.Shows.{Shows, TablesShow}

@@ -1,17 +1,17 @@
 -- An accepted change, the tick at which it comes, and settling keep the invariant; and so every run does.
 use Rattle.std.proofs.lemmas.Grind.{common_steps}
-use Rattle.std.proofs.Common.{◌≡◌, ℕ, zero, suc, ◌+◌, ◌-◌, ◌*◌, ◌%◌, ◌^◌, ◌<◌, ◌≤◌, Bool, true, false, cond, ◌&&◌, eqb, ltb, leb, List, [], ◌∷◌, get_or, replicate, Some, None, Option, sym, refl, ap, ◌∙◌, subst, inl, inr, add-zero, arith}
+use Rattle.std.proofs.Common.{◌≡◌, ℕ, zero, suc, ◌+◌, ◌-◌, ◌*◌, ◌%◌, ◌^◌, ◌<◌, ◌≤◌, Bool, true, false, cond, ◌&&◌, eqb, leb, List, [], ◌∷◌, get_or, replicate, Some, None, Option, sym, refl, ap, ◌∙◌, subst, inl, inr, add-zero, arith}
 use Rattle.std.specs.List.{AllByRecursion}
 use Rattle.std.proofs.lemmas.Bool.{and_parts, cases_Bool, cases_lt, cases_eq, leb-true, eqb-true, eq-eqb, ne_eqb, false≢true}
 use Rattle.schedule.specs.Plan.{Plan, flow_count, port_at, offset_at, delay_of}
-use Rattle.schedule.specs.Limits.{unless, within}
+use Rattle.schedule.specs.Limits.{unless}
 use Rattle.gates.specs.Timetable.{Transition, steady, pending, replaced, hold_from, timetable, each}
 use Rattle.egress.specs.declared.ordinary.Frame.{Frame}
 use Rattle.network.specs.declared.flight.Flight.{Flight}
 use Rattle.network.specs.declared.flight.Flight.TheVariants.{Idle, Waiting, Moving}
 use Rattle.network.specs.Windows.{cycle_begin, Occurs}
 use Rattle.network.specs.Lawful.{Fit, ClocksNear, Meaning, Lawful, port_count}
-use Rattle.network.specs.Calls.{Network, Call, offer, queue, read_record, read_wire, advance, change, settle, frame_allowed, queue_refused, advance_refused, change_tick, same_links, change_refused, settle_refused, in_order, switched, tick, ticks, refusal, done, after, run}
+use Rattle.network.specs.Calls.{Network, Call, offer, queue, read_record, read_wire, advance, change, settle, queue_refused, advance_refused, change_tick, same_links, change_refused, settle_refused, in_order, switched, tick, ticks, refusal, done, after, run}
 use Rattle.network.specs.Functions.{Core, ticked, offered, afresh, functions, new}
 use Rattle.network.specs.Guarantee.{First, BringsFit, AllFit}
 use Rattle.network.proofs.Turns.{rules}

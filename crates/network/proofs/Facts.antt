@@ -1,6 +1,6 @@
 -- The whole timetable, with a change, in six facts; after that nobody looks at cycles, lists or holds.
 use Rattle.std.proofs.lemmas.Grind.{common_steps}
-use Rattle.std.proofs.Common.{◌≡◌, ℕ, zero, suc, ◌+◌, ◌-◌, ◌*◌, ◌/◌, ◌<◌, ◌≤◌, true, ◌&&◌, eqb, ltb, leb, sym, refl, ap, ◌∙◌, inl, inr, mul-le-mul_right, div-add-mod', arith}
+use Rattle.std.proofs.Common.{◌≡◌, ℕ, suc, ◌+◌, ◌-◌, ◌*◌, ◌/◌, ◌<◌, ◌≤◌, true, ◌&&◌, eqb, ltb, leb, sym, refl, ap, ◌∙◌, inl, inr, mul-le-mul_right, div-add-mod', arith}
 use Rattle.std.proofs.lemmas.Bool.{cases_lt, cases_eq, ltb-true, and_parts, le-leb, lt-leb}
 use Rattle.schedule.specs.Plan.{Plan, flow_count, hop_count, port_at, offset_at, end_at, wire_of, crossed_at, early_at}
 use Rattle.gates.specs.Octets.{inside, octet_at, opens}

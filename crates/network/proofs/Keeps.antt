@@ -12,7 +12,7 @@ use Rattle.network.specs.declared.flight.Flight.TheVariants.{Idle, Waiting, Movi
 use Rattle.network.specs.Windows.{cycle_begin, begin_of, Occurs}
 use Rattle.network.specs.Lawful.{ClocksNear, Meaning, Lawful, port_count}
 use Rattle.network.specs.Flows.{has_next, landed, joins, arrives, span, is_flow, departed}
-use Rattle.network.specs.Ports.{at_place, listed, time_of_first, frame_time, time_of, chosen, sent, flow_sent}
+use Rattle.network.specs.Ports.{at_place, listed, time_of, chosen, sent, flow_sent}
 use Rattle.network.specs.Functions.{Core, after_joining, choice, ticked}
 use Rattle.network.specs.Guarantee.{NotYet, First, OnTime, due}
 use Rattle.network.proofs.Turns.{apart, one_window}

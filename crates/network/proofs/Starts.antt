@@ -1,15 +1,14 @@
 -- The start tick: class 7 is chosen exactly when the port's clock reads the begin of the window.
 use Rattle.std.proofs.lemmas.Grind.{common_steps}
-use Rattle.std.proofs.Common.{◌≡◌, ℕ, ◌+◌, ◌^◌, ◌<◌, ◌≤◌, Bool, true, false, cond, ◌&&◌, ltb, leb, List, [], ◌∷◌, Some, None, Option, sym, refl, ap, ◌∙◌, subst, inl, inr, add-zero, arith}
-use Rattle.std.proofs.lemmas.Bool.{cases_order, cases_lt, cases_eq, and_parts, and_from, ltb-true, le-leb, lt-leb, lt-ltb, eq-eqb, ne_eqb, le-ltb}
+use Rattle.std.proofs.Common.{◌≡◌, ℕ, ◌+◌, ◌^◌, ◌<◌, ◌≤◌, Bool, true, false, cond, ◌&&◌, ltb, leb, List, [], ◌∷◌, Some, None, Option, refl, ap, ◌∙◌, subst, inl, inr, add-zero, arith}
+use Rattle.std.proofs.lemmas.Bool.{cases_order, cases_lt, cases_eq, and_from, ltb-true, le-leb, lt-leb, lt-ltb, eq-eqb, le-ltb}
 use Rattle.schedule.specs.Plan.{Plan, flow_count, hop_count, port_at, wire_of}
 use Rattle.gates.specs.Octets.{opens}
 use Rattle.gates.specs.Timetable.{Transition, timetable, open_for}
-use Rattle.egress.specs.Waiting.{front}
 use Rattle.network.specs.Windows.{Turn, begin_of}
 use Rattle.network.specs.Lawful.{ClocksNear, Meaning, Lawful}
 use Rattle.network.specs.Flows.{is_flow}
-use Rattle.network.specs.Ports.{Port, mask_of, time_of_first, time_of, waits, available, chosen, flow_sent}
+use Rattle.network.specs.Ports.{Port, mask_of, time_of_first, time_of, available, chosen, flow_sent}
 use Rattle.network.specs.Guarantee.{NotYet}
 use Rattle.network.proofs.Masks.{mask_below_lt, in_mask, mask_in}
 use Rattle.network.proofs.Turns.{each_tells, reach_of_turn}

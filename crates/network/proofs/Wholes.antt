@@ -9,7 +9,7 @@ use Rattle.schedule.specs.Limits.{within}
 use Rattle.network.specs.declared.row.Row.{Row}
 use Rattle.network.specs.Lawful.{ClocksNear, Meaning, Lawful, port_count}
 use Rattle.network.specs.Calls.{Network, Call, Reply, first_above, clock_fault, start_refused, wrong_base, wrong_counts, run, replies}
-use Rattle.network.specs.Functions.{Core, extremes, functions, new}
+use Rattle.network.specs.Functions.{Core, functions, new}
 use Rattle.network.specs.Tables.{Tables, blank, tables, reads}
 use Rattle.network.specs.Guarantee.{AllFit, kept, told, Alike, Guaranteed}
 use Rattle.network.specs.Shows.{RowShows, Shows}

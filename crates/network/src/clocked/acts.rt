@@ -12,6 +12,7 @@ use egress::selection::Selection;
 
 impl<S: Selection, K: Clock> ClockedPort<S, K> {
     // The tick at port p.
+    #[tactic(auto, using(crate::proofs::Loops::through_by))]
     fn run(&mut self, arrivals: &Arrivals<'_>, p: usize)
         ensures { whole self.new ≡ run_through K.Clock.reading (meaning S.Selection.held S.Selection.pick S.Selection.passed) (checked_plan arrivals.now.plan.now) arrivals.now.t arrivals.now.rows.now p (whole self.old) }
     {
@@ -29,6 +30,7 @@ impl<S: Selection, K: Clock> ClockedPort<S, K> {
 }
 
 // The tick at every port.
+#[tactic(auto, using(crate::proofs::Loops::seen_turn, crate::proofs::Loops::over_all))]
 pub(crate) fn run_ports<S: Selection, K: Clock>(
     ports: &mut [ClockedPort<S, K>],
     arrivals: &Arrivals<'_>,

@@ -21,6 +21,7 @@ fn with_class(mask: u8, class: u8, on: bool) -> u8
 }
 
 // The classes that a test admits, as a mask. A loop: each bit that is added needs that the mask so far lies below it.
+#[tactic(auto, using(crate::proofs::Masks::mask_fits, crate::proofs::Masks::mask_start, crate::proofs::Masks::mask_step))]
 pub(crate) fn classes<F: Fn(u8) -> bool>(admits: F) -> u8
     requires { F.IsAlwaysCallable admits }
     ensures { (q : ℕ → Bool) → ((c : ℕ) (b : Bool) → c < 8 → F.post admits c b → b ≡ q c) → result ≡ mask_of q }
@@ -40,6 +41,7 @@ pub(crate) fn is_open(octet: u8, class: u8) -> bool
 }
 
 // A flow joins the line, if there is room.
+#[tactic(auto, using(crate::proofs::Joining::joined_take))]
 pub(crate) fn add_flow(line: &mut FlowLine, f: u8)
     requires { length (flows line.old) ≤ 16 }
     ensures { flows line.new ≡ take 16 (flows line.old ++ f ∷ []) }
@@ -48,6 +50,7 @@ pub(crate) fn add_flow(line: &mut FlowLine, f: u8)
 }
 
 // Those that reach port p join its line, the lower flow first.
+#[tactic(auto, using(crate::proofs::Joining::join_start, crate::proofs::Joining::join_more, crate::proofs::Joining::join_same, crate::proofs::Joining::join_none, crate::proofs::Joining::none_joins))]
 pub(crate) fn join(line: &mut FlowLine, arrivals: &Arrivals<'_>, p: usize)
     requires { length (flows line.old) ≤ 16 }
     ensures { flows line.new ≡ take 16 (flows line.old ++ listed (length arrivals.now.rows.now) (λ f. joins (checked_plan arrivals.now.plan.now) arrivals.now.t p f (flight_in arrivals.now.rows.now f))) }
@@ -74,6 +77,7 @@ pub(crate) fn frame_time(lines: &[FrameLine; 7], class: usize) -> u64
 }
 
 // The first frame of an ordinary class leaves its line.
+#[tactic(auto, using(crate::proofs::Places::place_seen, crate::proofs::Places::place_none))]
 pub(crate) fn drop_first(lines: &mut [FrameLine; 7], class: usize)
     ensures { map frames lines.new ≡ at_place class rest (map frames lines.old) }
 {

@@ -38,6 +38,7 @@ impl<S: Selection, K: Clock> Traffic<S, K> {
 
 impl<S, K> Traffic<S, K> {
     // The frame of flow f, offered now, joins the line of its first port.
+    #[tactic(auto, using(crate::proofs::Places::place_set, crate::proofs::Places::place_seen, crate::proofs::Places::place_none, crate::proofs::Places::past_end, crate::proofs::Places::kept_at), unfolding(crate::specs::Traffic::tables_of, crate::specs::Traffic::guides_of, crate::specs::Tables::offered_table, crate::specs::Steps::adding))]
     pub(crate) fn take_offer(&mut self, plan: &CheckedPlan, f: usize)
         requires { f < vec_len self.now.rows }
         ensures view { tables_of self.exit.now ≡ offered_table (checked_plan plan.now) f (tables_of self.entry.now) }
@@ -51,6 +52,7 @@ impl<S, K> Traffic<S, K> {
     }
 
     // An ordinary frame joins the line of a port and class.
+    #[tactic(auto, using(crate::proofs::Places::place_seen, crate::proofs::Places::place_none, crate::proofs::Places::past_end, crate::proofs::Places::kept_at, crate::proofs::Places::at_or_seen), unfolding(crate::specs::Traffic::tables_of, crate::specs::Traffic::guides_of, crate::specs::Traffic::lined_table, crate::specs::Steps::lining))]
     pub(crate) fn take_frame(&mut self, p: usize, class: usize, frame: Frame)
         requires { (class < 7) × (at_or (line_length class) 0 (tables_of self.now).ports p < 8) }
         ensures view { tables_of self.exit.now ≡ lined_table p class frame (tables_of self.entry.now) }
@@ -100,6 +102,7 @@ impl<S, K> Traffic<S, K> {
     }
 
     // The flows of a new plan begin with blank rows.
+    #[tactic(auto, unfolding(crate::specs::Traffic::tables_of, crate::specs::Traffic::guides_of, crate::specs::Tables::fresh_tables))]
     pub(crate) fn begin_afresh(&mut self, plan: &CheckedPlan)
         ensures view { tables_of self.exit.now ≡ fresh_tables (checked_plan plan.now) (tables_of self.entry.now) }
         ensures kept { (self.exit.now.now ≡ self.entry.now.now) × (vec_len self.exit.now.rows ≡ flow_count (checked_plan plan.now)) × (vec_len self.exit.now.ports ≡ vec_len self.entry.now.ports) × (guides_of self.exit.now ≡ guides_of self.entry.now) }

@@ -37,6 +37,7 @@ fn depart<S, K>(row: &mut Row, plan: &CheckedPlan, ports: &[ClockedPort<S, K>], 
 }
 
 // Tick t of the rows, once the ports have run it.
+#[tactic(auto, using(crate::proofs::Loops::over_turn, crate::proofs::Loops::over_all))]
 pub(crate) fn step_rows<S, K>(
     rows: &mut [Row],
     plan: &CheckedPlan,
