@@ -7,7 +7,7 @@ ghost use Rattle.network.specs.Flows.{has_next};
 use schedule::checked::CheckedPlan;
 use schedule::tables::Flow;
 
-// What the table of flows is read as past its end.
+// What the table of flows is read as past its end: `Flow` is another crate's, and has no `Default`.
 const NO_FLOW: Flow = Flow {
     release: 0,
     octets: 0,

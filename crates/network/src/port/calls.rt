@@ -23,6 +23,7 @@ impl<S> Port<S> {
         requires { (class < 7) × (line_length class (port_of self.old) < 8) }
         ensures { port_of self.new ≡ lining class frame (port_of self.old) }
     {
+        // By index: of a line that `get_mut` lends no clause says what the array then holds.
         let _ = self.ordinary[class].push(frame);
     }
 

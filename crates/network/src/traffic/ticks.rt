@@ -36,7 +36,7 @@ fn depart<S, K>(row: &mut Row, plan: &CheckedPlan, ports: &[ClockedPort<S, K>], 
     }
 }
 
-// Tick t of the rows, once the ports have run it.
+// Tick t of the rows, once the ports have run it. The plan, the ports and the tick go to two functions alone, and stay apart.
 #[tactic(auto, using(crate::proofs::Loops::over_turn, crate::proofs::Loops::over_all))]
 pub(crate) fn step_rows<S, K>(
     rows: &mut [Row],
