@@ -1,5 +1,5 @@
 -- An accepted offer, scheduled or ordinary, keeps the invariant.
-use Rattle.std.proofs.Common.{◌≡◌, ℕ, zero, suc, ◌+◌, ◌-◌, ◌*◌, ◌/◌, ◌%◌, ◌<◌, ◌≤◌, Bool, true, false, not, eqb, ltb, List, [], ◌∷◌, ◌++◌, map, get_or, take, None, Option, sym, refl, ap, ◌∙◌, subst, inl, inr, div-add-mod', arith}
+use Rattle.std.proofs.Common.{◌≡◌, ℕ, zero, suc, ◌+◌, ◌-◌, ◌*◌, ◌/◌, ◌%◌, ◌<◌, ◌≤◌, Bool, true, false, cond, not, eqb, ltb, List, [], ◌∷◌, ◌++◌, map, get_or, take, Some, None, Option, sym, refl, ap, ◌∙◌, subst, inl, inr, div-add-mod', arith}
 use Rattle.std.proofs.lemmas.Bool.{and_parts, not-true, cases_order, cases_eq, leb-false, ltb-true, eqb-true, eq-eqb, ne_eqb, both_ways}
 use Rattle.schedule.specs.Plan.{Plan, flow_count, hop_count, release_of, port_at, offset_at, early_at}
 use Rattle.schedule.specs.Limits.{unless}
@@ -25,9 +25,9 @@ pub put_all : {X : Type 0} (Q : ℕ → X → Type 0) (k : ℕ) (x : X) (fn : �
 put_all Q k x fn here else j = elim (cases_eq j k) [ inl e ↦ rw (eq-eqb j k e) (subst (λ i. Q i x) (sym e) here) | inr e ↦ rw (ne_eqb j k e) (else j e) ]
 
 -- a check that refuses nothing has passed, and so have those after it
-pub passes : (b : Bool) (k : ℕ) (later : Option ℕ) → unless b k later ≡ None → (b ≡ true) × (later ≡ None)
+pub passes : {A : Type 0} (b : Bool) (k : A) (later : Option A) → cond b later (Some k) ≡ None → (b ≡ true) × (later ≡ None)
 passes true k later e = (refl, e)
-passes false k later e = let z : ◌≡◌ {A = ℕ} 0 1 = cc in absurd (omega arith)
+passes false k later e = cc
 
 -- what an accepted offer tells
 may_offer : (P : Plan) (B : ℕ) (tr : Transition) (t f : ℕ) (x : Flight) → offer_refused P B tr t f x ≡ None

@@ -1,4 +1,5 @@
 -- Frames and ports: the tables and the functions keep step.
+use Rattle.std.proofs.lemmas.Grind.{common_steps}
 use Rattle.std.proofs.Common.{◌≡◌, ℕ, suc, ◌+◌, ◌-◌, ◌^◌, ◌<◌, ◌≤◌, Bool, true, false, cond, eqb, ltb, List, [], ◌∷◌, map, length, get_or, replicate, Some, None, Option, sym, refl, ap, ◌∙◌, subst, inl, inr, arith}
 use mathlib.Core.Path.{fun_ext}
 use Rattle.std.proofs.lemmas.Bool.{cases_lt, cases_eq, lt-ltb, le-ltb, eq-eqb, ne_eqb, cond-true, cond-false}
@@ -9,12 +10,14 @@ use Rattle.network.specs.declared.flight.Flight.{Flight}
 use Rattle.network.specs.declared.flight.Flight.TheVariants.{Idle, Waiting}
 use Rattle.network.specs.declared.row.Row.{Row}
 use Rattle.network.specs.Lawful.{Meaning, port_count}
-use Rattle.network.specs.Flows.{landed, joins, arrives, span, departed, released_at, widened}
-use Rattle.network.specs.Ports.{Port, at_place, with_frame, listed, joined_by, joined, chosen, sent, flow_sent, passed}
+use Rattle.network.specs.Flows.{landed, arrives, span, departed, released_at, widened}
+use Rattle.network.specs.Ports.{Port, at_place, with_frame, joined_by, joined, chosen, sent, flow_sent, passed}
 use Rattle.network.specs.Functions.{Core, put, extremes, after_joining, choice, ticked, offered, afresh, functions}
 use Rattle.network.specs.Tables.{Tables, blank, flight_in, counted, row_landed, row_departed, row_accepted, over, port_through, port_part, flow_part, ticked_tables, offered_table, fresh_tables, tables}
 use Rattle.network.specs.Shows.{RowShows}
-use Rattle.network.proofs.Overs.{length_over, over_at, length_place, place_at, listed_same}
+use Rattle.network.proofs.Keeps.{logged}
+use Rattle.network.proofs.Overs.{length_over, over_at, listed_same}
+use Rattle.network.proofs.Places.{length_place, place_at}
 
 -- the tables show frames and ports of the flows and ports of a plan; and a flow has accepted at most one frame a tick, and delivered at most one, so that no count comes to its end
 pub record Alike {S : Type 0} (P : Plan) (x : Tables S) (y : Core S) : Type 0 where
@@ -27,33 +30,17 @@ pub record Alike {S : Type 0} (P : Plan) (x : Tables S) (y : Core S) : Type 0 wh
   pub offers : (f : ℕ) → f < flow_count P → length (y.accepted f) ≤ y.now + cond (released_at y.now (y.flight f)) 1 0
   pub deliveries : (f : ℕ) → f < flow_count P → length (y.arrived f) ≤ y.now
 
--- the log of deliveries after a tick
-abbrev logged : Plan → ℕ → ℕ → Flight → List (ℕ × ℕ) → List (ℕ × ℕ)
-logged P t f x l = cond (arrives P t f x) (span x ∷ l) l
-
 counts_more : (n : ℕ) → n ≤ 2 ^ 48 + 1 → counted n ≡ suc n
 counts_more n h = omega arith
 
 delivered_same : (P : Plan) (t f : ℕ) (x : Flight) (l : List (ℕ × ℕ)) → length l ≤ 2 ^ 48 → cond (arrives P t f x) (counted (length l)) (length l) ≡ length (logged P t f x l)
-delivered_same P t f x l h = by (arrives P t f x)
-  where
-    by : (b : Bool) → cond b (counted (length l)) (length l) ≡ length (cond b (span x ∷ l) l)
-    by true = counts_more (length l) (omega arith)
-    by false = refl
+delivered_same P t f x l h = grind (arith, common_steps)
 
 delivered_more : (P : Plan) (t f : ℕ) (x : Flight) (l : List (ℕ × ℕ)) → length l ≤ t → length (logged P t f x l) ≤ t + 1
-delivered_more P t f x l h = by (arrives P t f x)
-  where
-    by : (b : Bool) → length (cond b (span x ∷ l) l) ≤ t + 1
-    by true = omega arith
-    by false = omega arith
+delivered_more P t f x l h = grind (arith, common_steps)
 
 extremes_same : (P : Plan) (t f : ℕ) (x : Flight) (l : List (ℕ × ℕ)) → cond (arrives P t f x) (Some (widened (extremes l) ((span x).1 - (span x).0))) (extremes l) ≡ extremes (logged P t f x l)
-extremes_same P t f x l = by (arrives P t f x)
-  where
-    by : (b : Bool) → cond b (Some (widened (extremes l) ((span x).1 - (span x).0))) (extremes l) ≡ extremes (cond b (span x ∷ l) l)
-    by true = refl
-    by false = refl
+extremes_same P t f x l = grind (arith, common_steps)
 
 by_place : (j k : ℕ) (Q : Bool → Type 0) → (j ≡ k → Q true) → ((j ≡ k → ⊥) → Q false) → Q (eqb j k)
 by_place j k Q u v = elim (cases_eq j k) [ inl e ↦ subst Q (sym (eq-eqb j k e)) (u e) | inr e ↦ subst Q (sym (ne_eqb j k e)) (v e) ]
@@ -62,8 +49,7 @@ pub blank_shows : (n f : ℕ) → f < n → RowShows (get_or (replicate n blank)
 blank_shows n f h = subst (λ (r : Row). RowShows r Idle [] []) (sym (get_or-replicate n f blank blank h)) (record { flight = refl; accepted_count = refl; delivered_count = refl; transits = refl })
 
 at_most_one : (b : Bool) → cond b 1 0 ≤ 1
-at_most_one true = omega arith
-at_most_one false = omega arith
+at_most_one b = grind (arith, common_steps)
 
 module _ {S : Type 0} (ρ : ℕ → ℕ → ℕ) (K : Meaning S) (P : Plan) (x : Tables S) (y : Core S) (a : Alike P x y) where
   module _ (σ : ℕ → ℕ → ℕ) (before : y.now < 2 ^ 48) where
@@ -80,11 +66,7 @@ module _ {S : Type 0} (ρ : ℕ → ℕ → ℕ) (K : Meaning S) (P : Plan) (x :
     long = length_over G 0 x.ports ∙ a.links
 
     joined_same : (p : ℕ) (z : Port S) → z ≡ y.port p → joined P t (length x.rows) (flight_in x.rows) p z ≡ after_joining P y p
-    joined_same p z e =
-        let q : ℕ → Bool = λ f. joins P t p f (flight_in x.rows f) in
-        let r : ℕ → Bool = λ f. joins P y.now p f (y.flight f) in
-        let l : listed (length x.rows) q ≡ listed (flow_count P) r = ap (λ k. listed k q) a.flows ∙ listed_same (flow_count P) q r (λ f h. (λ i. joins P (a.now i) p f ((a.rows f h).flight i))) in
-        λ i. joined_by (l i) (e i)
+    joined_same p z e = grind (arith, common_steps, listed_same)
 
     both_at : (p : ℕ) (d : Port S) (o : Option ℕ) → p < port_count P → get_or both p (d, o) ≡ (passed P (σ p) K y.now (ρ p y.now) (sent P y.now (after_joining P y p) (choice ρ K P σ y p)), flow_sent (after_joining P y p) (choice ρ K P σ y p))
     unfolding port_through
@@ -138,9 +120,7 @@ module _ {S : Type 0} (ρ : ℕ → ℕ → ℕ) (K : Meaning S) (P : Plan) (x :
     }
 
   place_ports : (k : ℕ) (g : Port S → Port S) (p : ℕ) (d : Port S) → p < port_count P → get_or (at_place k g x.ports) p d ≡ put k (g (y.port k)) y.port p
-  place_ports k g p d h =
-      place_at k g x.ports p d (omega (arith, a.links)) ∙ ap (λ z. cond (eqb p k) (g z) z) (a.ports p d h)
-      ∙ by_place p k (λ b. cond b (g (y.port p)) (y.port p) ≡ cond b (g (y.port k)) (y.port p)) (λ e. ap (λ j. g (y.port j)) e) (λ _. refl)
+  place_ports k g p d h = grind (arith, common_steps, place_at, by_place)
 
   module _ (f : ℕ) (h : f < flow_count P) (fresh : released_at y.now (y.flight f) ≡ false) where
     few : length (y.accepted f) ≤ y.now

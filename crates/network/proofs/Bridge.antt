@@ -1,4 +1,5 @@
 -- Networks: each call keeps what the tables show, and is replied to alike.
+use Rattle.std.proofs.lemmas.Grind.{common_steps}
 use Rattle.std.proofs.Common.{◌≡◌, ℕ, zero, suc, ◌+◌, ◌^◌, ◌<◌, ◌≤◌, Bool, true, false, cond, eqb, ltb, leb, List, [], ◌∷◌, Some, None, Option, sym, refl, ap, ◌∙◌, subst, inl, inr, arith}
 use Rattle.std.proofs.lemmas.Bool.{cases_lt, ltb-true, leb-true, eqb-true, le-ltb, not-true, and_parts, cond-false}
 use Rattle.std.proofs.lemmas.List.{get_or-map, length-map, length-replicate}
@@ -8,11 +9,12 @@ use Rattle.gates.specs.Timetable.{Transition, steady, pending, replaced, timetab
 use Rattle.network.specs.Lawful.{Meaning, port_count}
 use Rattle.network.specs.Flows.{released_at, is_under_way}
 use Rattle.network.specs.Ports.{empty_port, line_length, carried}
-use Rattle.network.specs.Calls.{Machine, Network, Call, offer, queue, read_record, read_wire, advance, change, settle, recorded, carries, now_is, changes_at, refused, out_of_order, in_order, offer_refused, queue_refused, advance_refused, change_tick, same_links, change_refused, settle_refused, switched, tick, ticks, refusal, done, result, reply, after, run, replies}
+use Rattle.network.specs.Calls.{Machine, Network, Call, offer, queue, read_record, read_wire, advance, change, settle, recorded, carries, now_is, changes_at, in_order, offer_refused, queue_refused, advance_refused, change_tick, same_links, change_refused, settle_refused, switched, tick, ticks, refusal, done, result, reply, after, run, replies}
 use Rattle.network.specs.Functions.{Core, ticked, afresh, functions, new}
 use Rattle.network.specs.Tables.{Tables, blank, fresh_tables, tables, new_tables}
 use Rattle.network.specs.Shows.{Shows, TablesShow}
-use Rattle.network.proofs.Overs.{or_at}
+use Rattle.network.proofs.Places.{or_at}
+use Rattle.network.proofs.Accepted.{passes}
 use Rattle.network.proofs.Alike.{Alike, blank_shows, ticked_alike, offered_alike, lined_alike, fresh_alike}
 
 -- a plan that is to come has as many ports
@@ -44,10 +46,6 @@ both_like : {S : Type 0} (b : Bool) (n n' : Network (Tables S)) (m m' : Network 
 both_like true n n' m m' l l' = l
 both_like false n n' m m' l l' = l'
 
-passes : (b : Bool) (k : ℕ) (o : Option ℕ) → unless b k o ≡ None → (b ≡ true) × (o ≡ None)
-passes true k o e = (refl, e)
-passes false k o e = let z : ◌≡◌ {A = ℕ} 0 1 = cc in absurd (omega arith)
-
 fails : (b : Bool) (k : ℕ) (o o' : Option ℕ) → b ≡ false → unless b k o ≡ unless b k o'
 fails b k o o' e = cond-false b o (Some k) e ∙ sym (cond-false b o' (Some k) e)
 
@@ -76,16 +74,7 @@ module _ {S : Type 0} (ρ : ℕ → ℕ → ℕ) (K : Meaning S) where
 
   tick_now : (m : Network (Core S)) → (tick F m).core.now ≡ m.core.now + 1
   unfolding tick ticked afresh
-  tick_now m = by m.transition (ticked ρ K m.plan (timetable m.plan m.base m.transition) m.core)
-    where
-      pick : (b : Bool) (x y : Network (Core S)) (t : ℕ) → x.core.now ≡ t → y.core.now ≡ t → (cond b x y).core.now ≡ t
-      pick true x y t e e' = e
-      pick false x y t e e' = e'
-
-      by : (tr : Transition) (y : Core S) → (switched F m.plan m.base tr y).core.now ≡ y.now
-      by steady y = refl
-      by (pending Q T) y = pick (eqb y.now T) _ _ y.now refl refl
-      by (replaced O A) y = refl
+  tick_now m = grind (arith, common_steps)
 
   ticks_like : (k : ℕ) (n : Network (Tables S)) (m : Network (Core S)) → Like n m → m.core.now + k ≤ 2 ^ 48
       → Like (ticks M k n) (ticks F k m) × ((ticks F k m).core.now ≡ m.core.now + k)
@@ -156,12 +145,7 @@ module _ {S : Type 0} (ρ : ℕ → ℕ → ℕ) (K : Meaning S) where
     done_like settle e = record { same = refl; alike = a; fits = tt }
 
     reply_same : (q : Call) → reply M n q ≡ reply F m q
-    reply_same q = ap (λ o. cond (in_order c.2 q) (elim o [ None ↦ result M n q | Some k ↦ refused k ]) out_of_order) (refusal_same q) ∙ by (refusal F m q) (result_same q)
-      where
-        by : (o : Option ℕ) → (o ≡ None → result M n q ≡ result F m q)
-            → cond (in_order c.2 q) (elim o [ None ↦ result M n q | Some k ↦ refused k ]) out_of_order ≡ cond (in_order c.2 q) (elim o [ None ↦ result F m q | Some k ↦ refused k ]) out_of_order
-        by None e = ap (λ r. cond (in_order c.2 q) r out_of_order) (e refl)
-        by (Some k) e = refl
+    reply_same q = grind (arith, common_steps, refusal_same, result_same)
 
     after_like : (q : Call) → Like (after M n q) (after F m q)
     after_like q = subst (λ (o : Option ℕ). Like (cond (in_order c.2 q) (elim o [ None ↦ done M n q | Some k ↦ n ]) n) (after F m q)) (sym (refusal_same q)) (by (refusal F m q) (done_like q))

@@ -1,16 +1,17 @@
 -- An accepted change, the tick at which it comes, and settling keep the invariant; and so every run does.
-use Rattle.std.proofs.Common.{◌≡◌, ℕ, zero, suc, ◌+◌, ◌-◌, ◌*◌, ◌%◌, ◌^◌, ◌<◌, ◌≤◌, Bool, true, false, cond, ◌&&◌, eqb, ltb, leb, List, [], ◌∷◌, get_or, replicate, Some, None, Option, sym, refl, ap, ◌∙◌, subst, inl, inr, add-zero, arith}
+use Rattle.std.proofs.lemmas.Grind.{common_steps}
+use Rattle.std.proofs.Common.{◌≡◌, ℕ, zero, suc, ◌+◌, ◌-◌, ◌*◌, ◌%◌, ◌^◌, ◌<◌, ◌≤◌, Bool, true, false, cond, ◌&&◌, eqb, leb, List, [], ◌∷◌, get_or, replicate, Some, None, Option, sym, refl, ap, ◌∙◌, subst, inl, inr, add-zero, arith}
 use Rattle.std.specs.List.{AllByRecursion}
 use Rattle.std.proofs.lemmas.Bool.{and_parts, cases_Bool, cases_lt, cases_eq, leb-true, eqb-true, eq-eqb, ne_eqb, false≢true}
 use Rattle.schedule.specs.Plan.{Plan, flow_count, port_at, offset_at, delay_of}
-use Rattle.schedule.specs.Limits.{unless, within}
+use Rattle.schedule.specs.Limits.{unless}
 use Rattle.gates.specs.Timetable.{Transition, steady, pending, replaced, hold_from, timetable, each}
 use Rattle.egress.specs.declared.ordinary.Frame.{Frame}
 use Rattle.network.specs.declared.flight.Flight.{Flight}
 use Rattle.network.specs.declared.flight.Flight.TheVariants.{Idle, Waiting, Moving}
 use Rattle.network.specs.Windows.{cycle_begin, Occurs}
 use Rattle.network.specs.Lawful.{Fit, ClocksNear, Meaning, Lawful, port_count}
-use Rattle.network.specs.Calls.{Network, Call, offer, queue, read_record, read_wire, advance, change, settle, frame_allowed, queue_refused, advance_refused, change_tick, same_links, change_refused, settle_refused, in_order, switched, tick, ticks, refusal, done, after, run}
+use Rattle.network.specs.Calls.{Network, Call, offer, queue, read_record, read_wire, advance, change, settle, queue_refused, advance_refused, change_tick, same_links, change_refused, settle_refused, in_order, switched, tick, ticks, refusal, done, after, run}
 use Rattle.network.specs.Functions.{Core, ticked, offered, afresh, functions, new}
 use Rattle.network.specs.Guarantee.{First, BringsFit, AllFit}
 use Rattle.network.proofs.Turns.{rules}
@@ -145,16 +146,10 @@ pub record Ok (P₀ : Plan) (ρ : ℕ → ℕ → ℕ) {S : Type 0} (n : Network
 
 -- what accepted calls tell
 queue_small : (P : Plan) (p c octets label waiting : ℕ) → queue_refused P p c octets label waiting ≡ None → octets ≤ 1522
-queue_small P p c octets label waiting e =
-    let (_, e1) = passes (ltb p (port_count P)) 44 (unless (leb c 6) 45 (unless (frame_allowed octets label) 46 (unless (ltb waiting 8) 47 None))) e in
-    let (_, e2) = passes (leb c 6) 45 (unless (frame_allowed octets label) 46 (unless (ltb waiting 8) 47 None)) e1 in
-    let (a, _) = passes (frame_allowed octets label) 46 (unless (ltb waiting 8) 47 None) e2 in
-    leb-true octets 1522 (and_parts (leb 64 octets) (leb octets 1522) (and_parts (within 64 1522 octets) (leb label 65535) a).0).1
+queue_small P p c octets label waiting e = grind (arith, common_steps, passes, leb-true)
 
 pub advance_fits : (t k : ℕ) → advance_refused t k ≡ None → t + k ≤ 2 ^ 48
-advance_fits t k e =
-    let (_, e1) = passes (leb k 1250000) 51 (unless (leb (t + k) (2 ^ 48)) 52 None) e in
-    leb-true (t + k) (2 ^ 48) (passes (leb (t + k) (2 ^ 48)) 52 None e1).0
+advance_fits t k e = grind (arith, common_steps, passes, leb-true)
 
 changes : (P : Plan) (B t : ℕ) (Q : Plan) (A T : ℕ) → change_refused P B t Q A T ≡ None → (Q.error ≡ P.error) × (t + 1542 + 2 * P.error ≤ hold_from P B T)
 changes P B t Q A T e =
@@ -204,8 +199,7 @@ module _ (P₀ : Plan) (ρ : ℕ → ℕ → ℕ) (near : ClocksNear P₀.error 
 
     pub tick_now : (n : Network (Core S)) → (tick (functions ρ K) n).core.now ≡ n.core.now + 1
     unfolding tick
-    tick_now n = switched_now n.plan n.base n.transition (ticked ρ K n.plan (timetable n.plan n.base n.transition) n.core)
-        ∙ ticked_now n.core n.plan (timetable n.plan n.base n.transition)
+    tick_now n = grind (arith, common_steps, switched_now, ticked_now)
 
     pub tick_ok : (n : Network (Core S)) → Ok P₀ ρ n → n.core.now < 2 ^ 48 → Ok P₀ ρ (tick (functions ρ K) n)
     unfolding tick
@@ -221,7 +215,7 @@ module _ (P₀ : Plan) (ρ : ℕ → ℕ → ℕ) (near : ClocksNear P₀.error 
     settles : (n : Network (Core S)) → Ok P₀ ρ n → (tr : Transition) → in_order tr settle ≡ true → Sound n.plan n.base tr → Inv n.plan n.base tr ρ n.core → settle_refused n.plan n.base tr n.core.now ≡ None
         → Fit n.plan × Inv n.plan n.base steady ρ n.core
     settles n ok steady o s i e = absurd (false≢true o)
-    settles n ok (pending Q T) o s i e = let z : ◌≡◌ {A = ℕ} 0 1 = cc in absurd (omega arith)
+    settles n ok (pending Q T) o s i e = cc
     settles n ok (replaced O A) o s i e = (
       s.0,
       settle_inv n.plan n.base ρ ok.low (near_at n ok) n.core O A s

@@ -1,5 +1,6 @@
 -- The whole timetable, with a change, in six facts; after that nobody looks at cycles, lists or holds.
-use Rattle.std.proofs.Common.{◌≡◌, ℕ, zero, suc, ◌+◌, ◌-◌, ◌*◌, ◌/◌, ◌<◌, ◌≤◌, true, ◌&&◌, eqb, ltb, leb, sym, refl, ap, ◌∙◌, inl, inr, mul-le-mul_right, div-add-mod', arith}
+use Rattle.std.proofs.lemmas.Grind.{common_steps}
+use Rattle.std.proofs.Common.{◌≡◌, ℕ, suc, ◌+◌, ◌-◌, ◌*◌, ◌/◌, ◌<◌, ◌≤◌, true, ◌&&◌, eqb, ltb, leb, sym, refl, ap, ◌∙◌, inl, inr, mul-le-mul_right, div-add-mod', arith}
 use Rattle.std.proofs.lemmas.Bool.{cases_lt, cases_eq, ltb-true, and_parts, le-leb, lt-leb}
 use Rattle.schedule.specs.Plan.{Plan, flow_count, hop_count, port_at, offset_at, end_at, wire_of, crossed_at, early_at}
 use Rattle.gates.specs.Octets.{inside, octet_at, opens}
@@ -158,11 +159,7 @@ replaced_facts P B O A fP fO e from = record {
     before i W w k (inl win) lt = omega (arith, hold_le O A B from, old_ends O A P B fO fP from P.error (sym e) refl win.0 win.1, early_ge i)
       where
         early_ge : {p : ℕ} (i : Turn P p) → P.error ≤ early_at P i.flow i.hop
-        early_ge i = by i.hop i.hop_in
-          where
-            by : (h : ℕ) → h < hop_count P i.flow → P.error ≤ early_at P i.flow h
-            by zero hi = omega arith
-            by (suc h) hi = omega (arith, (fP.good i.flow i.flow_in h (omega arith)).guarded)
+        early_ge i = grind (arith, common_steps)
     before i W w k (inr win) lt = omega (arith, apart P B fP win.turn i (omega arith))
 
     later : {p : ℕ} (i : Turn P p) (W w : ℕ) → Unit {0} → OccursJoint O A P B p W w → begin_of P B p i < W → closes P B p i + 2 * P.error ≤ W

@@ -1,7 +1,7 @@
 -- Flows that join a line.
-use Rattle.std.proofs.Common.{◌≡◌, ℕ, zero, suc, ◌+◌, ◌≤◌, Bool, true, false, cond, eqb, ltb, List, [], ◌∷◌, ◌++◌, length, take, sym, refl, ap, ◌∙◌, inl, inr, append_assoc, append-nil, add-one, arith}
-use Rattle.std.proofs.lemmas.List.{take_all, take-append-le, length_push}
-use Rattle.std.proofs.lemmas.Bool.{cases_lt, lt-ltb, le-ltb, cond-true, cond-false, or_parts, and_left}
+use Rattle.std.proofs.lemmas.Grind.{common_steps}
+use Rattle.std.proofs.Common.{◌≡◌, ℕ, zero, suc, ◌+◌, ◌≤◌, Bool, true, false, cond, eqb, List, [], ◌∷◌, ◌++◌, length, take, sym, refl, ap, ◌∙◌, append_assoc, add-one, arith}
+use Rattle.std.proofs.lemmas.Bool.{or_parts, and_left}
 use Rattle.schedule.specs.Plan.{Plan}
 use Rattle.egress.specs.Waiting as line
 use Rattle.network.specs.declared.flight.Flight.{Flight}
@@ -14,10 +14,7 @@ use Rattle.network.specs.Due.{reaches, some_due}
 
 -- a line takes what there is room for
 pub joined_take : {T : Type 0} (room : ℕ) (x : T) (xs : List T) → length xs ≤ room → line.joined room x xs ≡ take room (xs ++ x ∷ [])
-joined_take room x xs h = elim (cases_lt (length xs) room) [
-  | inl k ↦ cond-true (ltb (length xs) room) (xs ++ x ∷ []) xs (lt-ltb (length xs) room k) ∙ sym (take_all room (xs ++ x ∷ []) (omega (arith, length_push xs x)))
-  | inr k ↦ cond-false (ltb (length xs) room) (xs ++ x ∷ []) xs (le-ltb (length xs) room k) ∙ sym (take-append-le room xs (x ∷ []) k ∙ take_all room xs h)
-]
+joined_take room x xs h = grind (arith, common_steps)
 
 again : {T : Type 0} (n : ℕ) (a b : List T) → take n (take n a ++ b) ≡ take n (a ++ b)
 again zero a b = refl
@@ -26,7 +23,7 @@ again (suc n) (x ∷ a) b = ap (λ l. x ∷ l) (again n a b)
 
 module _ (xs : List ℕ) (q : ℕ → Bool) where
   pub join_start : length xs ≤ 16 → xs ≡ take 16 (xs ++ listed 0 q)
-  join_start h = sym (ap (take 16) (append-nil xs) ∙ take_all 16 xs h)
+  join_start h = grind (arith, common_steps)
 
   pub join_more : (f : ℕ) (old new : List ℕ) → old ≡ take 16 (xs ++ listed f q) → q f ≡ true → new ≡ take 16 (old ++ (f ∷ [])) → new ≡ take 16 (xs ++ listed (f + 1) q)
   join_more f old new a b c =
@@ -34,9 +31,7 @@ module _ (xs : List ℕ) (q : ℕ → Bool) where
       c ∙ ap (λ l. take 16 (l ++ (f ∷ []))) a ∙ again 16 (xs ++ listed f q) (f ∷ []) ∙ ap (take 16) (append_assoc xs (listed f q) (f ∷ []) ∙ ap (λ l. xs ++ l) e)
 
   pub join_same : (f : ℕ) (old new : List ℕ) → old ≡ take 16 (xs ++ listed f q) → q f ≡ false → new ≡ old → new ≡ take 16 (xs ++ listed (f + 1) q)
-  join_same f old new a b c =
-      let e : listed f q ≡ listed (f + 1) q = sym (ap (λ n. listed n q) (add-one f) ∙ ap (λ b. listed f q ++ cond b (f ∷ []) []) b ∙ append-nil (listed f q)) in
-      c ∙ a ∙ ap (λ l. take 16 (xs ++ l)) e
+  join_same f old new a b c = grind (arith, common_steps)
 
   -- where none joins the line stays
   pub listed_none : ((f : ℕ) → q f ≡ false) → (n : ℕ) → listed n q ≡ []

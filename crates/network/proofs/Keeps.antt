@@ -1,4 +1,5 @@
 -- A tick keeps the invariant, and does to a flow what a closed form says.
+use Rattle.std.proofs.lemmas.Grind.{common_steps}
 use Rattle.std.proofs.Common.{◌≡◌, ℕ, zero, suc, ◌+◌, ◌-◌, ◌^◌, ◌<◌, ◌≤◌, Bool, true, false, cond, not, ◌&&◌, eqb, ltb, leb, ◌⊎◌, List, [], ◌∷◌, ◌++◌, map, get_or, take, Some, None, Option, sym, refl, ap, ◌∙◌, subst, inl, inr, arith}
 use Rattle.std.specs.List.{AllByRecursion}
 use Rattle.std.proofs.lemmas.Bool.{cases_order, cases_Bool, cases_lt, cases_eq, and_parts, ltb-false, eqb-true, le-leb, lt-leb, lt-ltb, eq-eqb, ne_eqb, le-ltb, both_ways, not-true, cond-true, cond-false, false≢true}
@@ -11,7 +12,7 @@ use Rattle.network.specs.declared.flight.Flight.TheVariants.{Idle, Waiting, Movi
 use Rattle.network.specs.Windows.{cycle_begin, begin_of, Occurs}
 use Rattle.network.specs.Lawful.{ClocksNear, Meaning, Lawful, port_count}
 use Rattle.network.specs.Flows.{has_next, landed, joins, arrives, span, is_flow, departed}
-use Rattle.network.specs.Ports.{at_place, listed, time_of_first, frame_time, time_of, chosen, sent, flow_sent}
+use Rattle.network.specs.Ports.{at_place, listed, time_of, chosen, sent, flow_sent}
 use Rattle.network.specs.Functions.{Core, after_joining, choice, ticked}
 use Rattle.network.specs.Guarantee.{NotYet, First, OnTime, due}
 use Rattle.network.proofs.Turns.{apart, one_window}
@@ -35,10 +36,7 @@ listed_cases (suc n) q one = elim (cases_Bool (q n)) [
 ]
 
 leb_same : (a b c d : ℕ) → (a ≤ b → c ≤ d) → (c ≤ d → a ≤ b) → leb a b ≡ leb c d
-leb_same a b c d h k = elim (cases_lt b a) [
-  | inl l ↦ lt-leb a b l ∙ sym (lt-leb c d (elim (cases_lt d c) [ inl m ↦ m | inr m ↦ absurd (omega (arith, k m)) ]))
-  | inr l ↦ le-leb a b l ∙ sym (le-leb c d (h l))
-]
+leb_same a b c d h k = grind (arith, common_steps, lt-leb, le-leb)
 
 -- the element at a place of a list with another one altered
 at_same : {A : Type 0} (g : A → A) (d : A) (k : ℕ) (xs : List A) → g d ≡ d → get_or (at_place k g xs) k d ≡ g (get_or xs k d)
@@ -261,10 +259,7 @@ module _ (P : Plan) (B : ℕ) (tr : Transition) (ρ : ℕ → ℕ → ℕ) (F : 
       at_port p h = cond-true (ltb p (port_count P)) (own_choice p) None (lt-ltb p (port_count P) h)
 
       picks_own : (p c : ℕ) → picks p ≡ Some c → own_choice p ≡ Some c
-      picks_own p c e = elim (cases_lt p (port_count P)) [
-        | inl h ↦ sym (at_port p h) ∙ e
-        | inr h ↦ (let z : None ≡ Some c = sym (cond-false (ltb p (port_count P)) (own_choice p) None (le-ltb p (port_count P) h)) ∙ e in let y : ◌≡◌ {A = ℕ} 0 1 = cc in absurd (omega arith))
-      ]
+      picks_own p c e = grind (arith, common_steps, at_port, cond-false, le-ltb)
 
       abbrev begun : ℕ → Option ℕ
       begun p = flow_sent (after_joining P n p) (picks p)
@@ -344,12 +339,7 @@ module _ (P : Plan) (B : ℕ) (tr : Transition) (ρ : ℕ → ℕ → ℕ) (F : 
           (begin_of P B p i, F.own i ok.counts, record { from = omega arith; reads = r; not_before = ny })
 
       small_time : (p c : ℕ) → (c ≡ 7 → ⊥) → time_of P (after_joining P n p) c ≤ 1542
-      small_time p c q = subst (λ b. cond b (time_of_first (wire_of P) (after_joining P n p).scheduled) (time_of_first frame_time (get_or (n.port p).ordinary c [])) ≤ 1542) (sym (ne_eqb c 7 q))
-          (by (get_or (n.port p).ordinary c []) (inv.small p c))
-        where
-          by : (l : List Frame) → Short P B tr ρ l → time_of_first frame_time l ≤ 1542
-          by [] a = omega arith
-          by (x ∷ l) a = omega (arith, a.0)
+      small_time p c q = grind (arith, common_steps, inv, ne_eqb)
 
       tick_wires : (p : ℕ) → WireOk P B tr ρ (n.now + 1) p ((ticked ρ K P (timetable P B tr) n).port p).class ((ticked ρ K P (timetable P B tr) n).port p).until
       unfolding ticked

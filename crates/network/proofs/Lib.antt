@@ -16,5 +16,4 @@ pub mod Supposed
 pub mod Wholes
 pub mod Places
 pub mod Joining
-pub mod Portions
 pub mod Loops

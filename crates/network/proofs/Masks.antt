@@ -1,4 +1,5 @@
 -- Masks and the tests that they are made by.
+use Rattle.std.proofs.lemmas.Grind.{common_steps}
 use Rattle.std.proofs.Common.{◌≡◌, ℕ, zero, suc, ◌+◌, ◌-◌, ◌*◌, ◌/◌, ◌%◌, ◌^◌, ◌<◌, Bool, true, false, cond, sym, refl, ap, ◌∙◌, inl, inr, pow-suc, add-one, arith, lit<, pow_pos, pow-add}
 use native.Mathlib.Nat.{add-mul-div_left}
 use Rattle.std.proofs.lemmas.Nat.{div-mul-add}
@@ -39,8 +40,7 @@ bit_of (suc n) a c h = elim (cases_eq c n) [
     below false k = ap (λ z. (z / 2 ^ c) % 2) (let z : mask_below n a + 0 ≡ mask_below n a = omega arith in z)
 
 by_bit : (b : Bool) (n : ℕ) → n ≡ cond b 1 0 → n ≡ 1 → b ≡ true
-by_bit true n e z = refl
-by_bit false n e z = absurd (omega arith)
+by_bit b n e z = grind (arith, common_steps)
 
 -- a class below 8 is in the mask of a test exactly if the test admits it
 pub in_mask : (a : ℕ → Bool) (c : ℕ) → c < 8 → In c (mask_of a) → a c ≡ true
@@ -57,6 +57,9 @@ mask_start a = refl
 mask_more : (n : ℕ) (a : ℕ → Bool) → mask_below (n + 1) a ≡ mask_below n a + cond (a n) (2 ^ n) 0
 unfolding mask_below
 mask_more n a = ap (λ m. mask_below m a) (add-one n)
+
+pub mask_fits : (n m : ℕ) (b : Bool) → m < 2 ^ n → m + cond b (2 ^ n) 0 < 2 ^ (n + 1)
+mask_fits n m b h = grind (arith, common_steps, pow-suc 2 n)
 
 pub mask_step : (n : ℕ) (a : ℕ → Bool) (m : ℕ) (b : Bool) (r : ℕ) → m ≡ mask_below n a → b ≡ a n → r ≡ m + cond b (2 ^ n) 0 → r ≡ mask_below (n + 1) a
 mask_step n a m b r e f g = g ∙ (λ i. e i + cond (f i) (2 ^ n) 0) ∙ sym (mask_more n a)

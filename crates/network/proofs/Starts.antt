@@ -1,14 +1,14 @@
 -- The start tick: class 7 is chosen exactly when the port's clock reads the begin of the window.
-use Rattle.std.proofs.Common.{◌≡◌, ℕ, ◌+◌, ◌^◌, ◌<◌, ◌≤◌, Bool, true, false, cond, ◌&&◌, ltb, leb, List, [], ◌∷◌, Some, None, Option, sym, refl, ap, ◌∙◌, subst, inl, inr, add-zero, arith}
-use Rattle.std.proofs.lemmas.Bool.{cases_order, cases_lt, cases_eq, and_parts, and_from, ltb-true, le-leb, lt-leb, lt-ltb, eq-eqb, ne_eqb, le-ltb}
+use Rattle.std.proofs.lemmas.Grind.{common_steps}
+use Rattle.std.proofs.Common.{◌≡◌, ℕ, ◌+◌, ◌^◌, ◌<◌, ◌≤◌, Bool, true, false, cond, ◌&&◌, ltb, leb, List, [], ◌∷◌, Some, None, Option, refl, ap, ◌∙◌, subst, inl, inr, add-zero, arith}
+use Rattle.std.proofs.lemmas.Bool.{cases_order, cases_lt, cases_eq, and_from, ltb-true, le-leb, lt-leb, lt-ltb, eq-eqb, le-ltb}
 use Rattle.schedule.specs.Plan.{Plan, flow_count, hop_count, port_at, wire_of}
 use Rattle.gates.specs.Octets.{opens}
 use Rattle.gates.specs.Timetable.{Transition, timetable, open_for}
-use Rattle.egress.specs.Waiting.{front}
 use Rattle.network.specs.Windows.{Turn, begin_of}
 use Rattle.network.specs.Lawful.{ClocksNear, Meaning, Lawful}
 use Rattle.network.specs.Flows.{is_flow}
-use Rattle.network.specs.Ports.{Port, mask_of, time_of_first, time_of, waits, available, chosen, flow_sent}
+use Rattle.network.specs.Ports.{Port, mask_of, time_of_first, time_of, available, chosen, flow_sent}
 use Rattle.network.specs.Guarantee.{NotYet}
 use Rattle.network.proofs.Masks.{mask_below_lt, in_mask, mask_in}
 use Rattle.network.proofs.Turns.{each_tells, reach_of_turn}
@@ -27,9 +27,7 @@ time_none P x e = ap (time_of_first (wire_of P)) e
 -- what is chosen is available, so a frame waits and its gate is open throughout
 module _ (P : Plan) (octets : ℕ → ℕ) {S : Type 0} (t l : ℕ) (x : Port S) where
   pub available_opens : (c : ℕ) → available P octets l x c ≡ true → (0 < time_of P x c) × ((j : ℕ) → j < time_of P x c → opens (octets (l + j)) c ≡ true)
-  available_opens c e =
-      let (a, b) = and_parts (waits P x c) (open_for octets l c (time_of P x c)) e in
-      (ltb-true 0 (time_of P x c) a, (each_tells (time_of P x c) (λ j. opens (octets (l + j)) c)).0 b)
+  available_opens c e = grind (arith, common_steps, each_tells, ltb-true)
 
   -- what a lawful selection replies is available
   pub picked : (K : Meaning S) → Lawful K → (c : ℕ) → K.pick x.selection (mask_of (available P octets l x)) ≡ Some c → (c < 8) × (available P octets l x c ≡ true)
@@ -43,7 +41,7 @@ module _ (P : Plan) (octets : ℕ → ℕ) {S : Type 0} (t l : ℕ) (x : Port S)
       let (a, b) = available_opens c av in (c8, a, b)
     where
       go : (b : Bool) (v : Option ℕ) → cond b None v ≡ Some c → v ≡ Some c
-      go true v e = let z : ◌≡◌ {A = ℕ} 0 1 = cc in absurd (omega arith)
+      go true v e = cc
       go false v e = e
 
 module _ (P : Plan) (B : ℕ) (tr : Transition) (ρ : ℕ → ℕ → ℕ) (F : Facts P B tr) (low : P.error ≤ B) (near : ClocksNear P.error ρ) where
@@ -58,12 +56,7 @@ module _ (P : Plan) (B : ℕ) (tr : Transition) (ρ : ℕ → ℕ → ℕ) (F : 
   module _ (t : ℕ) (from : B ≤ t) (lim : t < 2 ^ 48) {p : ℕ} (i : Turn P p) (counts : Counts P B tr i.cycles)
       (reached : reach_of_turn P B p i ≤ t + P.error) (ny : NotYet P.error (ρ p) (begin_of P B p i) t) where
     opens_is : opens (timetable P B tr p (ρ p t)) 7 ≡ true → begin_of P B p i ≤ ρ p t
-    opens_is e =
-        let (W, w, occ, a, b) = F.seven_is p (ρ p t) e in
-        elim (cases_lt W (begin_of P B p i)) [
-          | inr h ↦ omega arith
-          | inl h ↦ absurd (omega (arith, F.before i W w counts occ h, (near p t (omega arith) (omega arith)).late))
-        ]
+    opens_is e = grind (arith, common_steps, F, counts, near)
 
     module _ {S : Type 0} (x : Port S) (line : x.scheduled ≡ i.flow ∷ []) where
       ready : begin_of P B p i ≤ ρ p t → available P (timetable P B tr p) (ρ p t) x 7 ≡ true
@@ -123,17 +116,4 @@ module _ (P : Plan) (B : ℕ) (tr : Transition) (ρ : ℕ → ℕ → ℕ) (F : 
 
           -- the claim of the start tick
           pub starts_when : is_flow (flow_sent x (chosen P (timetable P B tr p) K t (ρ p t) x)) i.flow ≡ leb (begin_of P B p i) (ρ p t)
-          starts_when = elim (cases_lt (ρ p t) (begin_of P B p i)) [
-            | inr h ↦ ap (λ v. is_flow (flow_sent x v) i.flow) (chooses h) ∙ seven x.scheduled line ∙ sym (le-leb (begin_of P B p i) (ρ p t) h)
-            | inl h ↦ go h (chosen P (timetable P B tr p) K t (ρ p t) x) refl ∙ sym (lt-leb (begin_of P B p i) (ρ p t) h)
-          ]
-            where
-              seven : (l : List ℕ) → l ≡ i.flow ∷ [] → is_flow (front l) i.flow ≡ true
-              seven l e = ap (λ l. is_flow (front l) i.flow) e ∙ eq-eqb i.flow i.flow refl
-
-              go : ρ p t < begin_of P B p i → (v : Option ℕ) → chosen P (timetable P B tr p) K t (ρ p t) x ≡ v → is_flow (flow_sent x v) i.flow ≡ false
-              go h None e = refl
-              go h (Some c) e = elim (cases_eq c 7) [
-                | inl q ↦ (let e7 : chosen P (timetable P B tr p) K t (ρ p t) x ≡ Some 7 = e ∙ ap Some q in absurd (omega (arith, only_then e7)))
-                | inr q ↦ ap (λ b. is_flow (cond b (front x.scheduled) None) i.flow) (ne_eqb c 7 q)
-              ]
+          starts_when = grind (arith, common_steps, chooses, only_then, le-leb, lt-leb, eq-eqb)

@@ -1,4 +1,5 @@
 -- The guarantee.
+use Rattle.std.proofs.lemmas.Grind.{common_steps}
 use Rattle.std.proofs.Common.{◌≡◌, ℕ, zero, suc, ◌+◌, ◌-◌, ◌^◌, ◌<◌, ◌≤◌, Bool, true, false, cond, eqb, List, [], ◌∷◌, length, Some, None, Option, sym, refl, ap, ◌∙◌, inl, inr, arith}
 use Rattle.std.proofs.lemmas.Bool.{cases_Bool, cases_eq, eqb-true, eqb-false, eq-eqb, ne_eqb, both_ways, true≢false, false≢true}
 use Rattle.schedule.specs.Plan.{Plan, flow_count, hop_count, offset_at, port_at, crossed_at}
@@ -145,11 +146,7 @@ module _ (P₀ : Plan) (ρ : ℕ → ℕ → ℕ) (near : ClocksNear P₀.error 
 
     tick_view : (n : Network (Core S)) → Ok P₀ ρ n → n.core.now < 2 ^ 48 → view f (tick (functions ρ K) n) ≡ ticked_view ρ f (view f n)
     unfolding tick ticked
-    tick_view n ok lim =
-        let P = n.plan in let B = n.base in let tr = n.transition in
-        switched_view P B tr (ticked ρ K P (timetable P B tr) n.core)
-        ∙ ap (λ (x : Flight). turned P B tr (n.core.now + 1) x (n.core.accepted f) (logged P n.core.now f (n.core.flight f) (n.core.arrived f)))
-        (tick_flight P B tr ρ (facts P B tr ok.sound) ok.low (near_at P₀ ρ near n ok) n.core ok.inv lim K law f)
+    tick_view n ok lim = grind (arith, common_steps, switched_view, tick_flight, facts, near_at, near)
 
     ticks_view : (n : Network (Core S)) → Ok P₀ ρ n → (k : ℕ) → n.core.now + k ≤ 2 ^ 48 → view f (ticks (functions ρ K) k n) ≡ ticked_views ρ f k (view f n)
     ticks_view n ok zero lim = refl
@@ -202,43 +199,13 @@ module _ (P₀ : Plan) (ρ : ℕ → ℕ → ℕ) (near : ClocksNear P₀.error 
     other_done n settle e = absurd (true≢false e)
 
     kept_after : (n : Network (Core S)) → Ok P₀ ρ n → (c : Call) → keeps f c ≡ true → view f (after (functions ρ K) n c) ≡ view_after ρ f (view f n) c
-    kept_after n ok c e = ordered (in_order n.transition c)
-      where
-        unrefused : (v w : Option ℕ) → refusal (functions ρ K) n c ≡ v → v ≡ w
-            → view f (elim v [ None ↦ done (functions ρ K) n c | Some k ↦ n ]) ≡ elim w [ None ↦ view_done ρ f (view f n) c | Some k ↦ view f n ]
-        unrefused None None a q = done_view n ok c a e
-        unrefused None (Some k) a q = let z : ◌≡◌ {A = ℕ} 0 1 = cc in absurd (omega arith)
-        unrefused (Some j) None a q = let z : ◌≡◌ {A = ℕ} 0 1 = cc in absurd (omega arith)
-        unrefused (Some j) (Some k) a q = refl
-
-        ordered : (o : Bool) → view f (cond o (elim (refusal (functions ρ K) n c) [ None ↦ done (functions ρ K) n c | Some k ↦ n ]) n)
-            ≡ cond o (elim (view_refusal f (view f n) c) [ None ↦ view_done ρ f (view f n) c | Some k ↦ view f n ]) (view f n)
-        ordered true = unrefused (refusal (functions ρ K) n c) (view_refusal f (view f n) c) refl (refusal_view n c e)
-        ordered false = refl
+    kept_after n ok c e = grind (arith, common_steps, done_view, refusal_view)
 
     other_after : (n : Network (Core S)) (c : Call) → keeps f c ≡ false → view f (after (functions ρ K) n c) ≡ view f n
-    other_after n c e = ordered (in_order n.transition c)
-      where
-        unrefused : (v : Option ℕ) → view f (elim v [ None ↦ done (functions ρ K) n c | Some k ↦ n ]) ≡ view f n
-        unrefused None = other_done n c e
-        unrefused (Some k) = refl
-
-        ordered : (o : Bool) → view f (cond o (elim (refusal (functions ρ K) n c) [ None ↦ done (functions ρ K) n c | Some k ↦ n ]) n) ≡ view f n
-        ordered true = unrefused (refusal (functions ρ K) n c)
-        ordered false = refl
+    other_after n c e = grind (arith, common_steps, other_done)
 
     reply_view : (n : Network (Core S)) (c : Call) → concerns f c ≡ true → reply (functions ρ K) n c ≡ view_reply f (view f n) c
-    reply_view n c e = ordered (in_order n.transition c)
-      where
-        unrefused : (v : Option ℕ) → ◌≡◌ {A = Reply} (elim v [ None ↦ result (functions ρ K) n c | Some k ↦ refused k ]) (elim v [ None ↦ view_result (view f n) c | Some k ↦ refused k ])
-        unrefused None = result_view n c e
-        unrefused (Some k) = refl
-
-        ordered : (o : Bool) → cond o (elim (refusal (functions ρ K) n c) [ None ↦ result (functions ρ K) n c | Some k ↦ refused k ]) out_of_order
-            ≡ cond o (elim (view_refusal f (view f n) c) [ None ↦ view_result (view f n) c | Some k ↦ refused k ]) out_of_order
-        ordered true = unrefused (refusal (functions ρ K) n c)
-            ∙ ap (λ v. elim v [ None ↦ view_result (view f n) c | Some k ↦ refused k ]) (refusal_view n c (concerned f c e))
-        ordered false = refl
+    reply_view n c e = grind (arith, common_steps, result_view, refusal_view, concerned)
 
     -- what f sees of a run is a machine over the calls that are kept
     run_view : (cs : List Call) → AllFit cs → (n : Network (Core S)) → Ok P₀ ρ n → view f (run (functions ρ K) cs n) ≡ view_run ρ f (kept f cs) (view f n)

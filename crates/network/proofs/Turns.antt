@@ -1,4 +1,5 @@
 -- Windows in true time: they stand apart, and the gates follow them.
+use Rattle.std.proofs.lemmas.Grind.{common_steps}
 use Rattle.std.proofs.Common.{◌≡◌, ℕ, zero, suc, ◌+◌, ◌-◌, ◌*◌, ◌/◌, ◌%◌, ◌^◌, ◌<◌, ◌≤◌, Bool, true, false, ◌&&◌, eqb, ltb, leb, ◌⊎◌, Decides, sym, refl, ap, ◌∙◌, subst, inl, inr, mul-le-mul_right, suc-mul, div-add-mod', arith}
 use lib.Arith.{digits_mod}
 use Rattle.std.proofs.lemmas.Bool.{cases_order, and_parts, and_from, leb-true, ltb-true, eqb-true, le-leb, lt-leb, lt-ltb, eq-eqb, both_ways, cases_lt, true≢false, false≢true}
@@ -129,19 +130,7 @@ module _ (P : Plan) (B : ℕ) (fit : Fit P) where
 
   -- windows of one port that begin together are one
   pub one_window : {p : ℕ} (i j : Turn P p) → begin_of P B p i ≡ begin_of P B p j → i.flow ≡ j.flow
-  one_window i j same =
-      let a = (rules i).ends in let b = (rules j).ends in
-      elim (cases_order i.cycles j.cycles) [
-        | inl e ↦
-            let t : i.cycles * P.cycle ≡ j.cycles * P.cycle = ap (λ n. n * P.cycle) e in
-            elim (two_windows P fit i.flow i.hop j.flow j.hop i.flow_in i.hop_in j.flow_in j.hop_in (i.at ∙ sym j.at)) [
-              | inl s ↦ s.0
-              | inr (inl k) ↦ absurd (omega arith)
-              | inr (inr k) ↦ absurd (omega arith)
-            ]
-        | inr (inl l) ↦ absurd (omega (arith, turns i.cycles j.cycles P.cycle l))
-        | inr (inr l) ↦ absurd (omega (arith, turns j.cycles i.cycles P.cycle l))
-      ]
+  one_window i j same = grind (arith, common_steps, rules, two_windows, fit, turns)
 
   -- the place in the cycle of a tick in a window, or in the guard band before it
   phase : {p : ℕ} (i : Turn P p) (l : ℕ) → begin_of P B p i ≤ l + 2 * P.error → l < closes P B p i

@@ -1,5 +1,7 @@
 -- The promises of two networks newly started, from the guarantee and from what the tables show.
-use Rattle.std.proofs.Common.{◌≡◌, ℕ, zero, suc, ◌^◌, ◌<◌, ◌≤◌, Bool, true, false, cond, ◌&&◌, eqb, leb, List, [], ◌∷◌, map, length, get_or, take, Some, None, Option, sym, refl, ap, ◌∙◌, subst, arith}
+use Rattle.std.proofs.Common.{arith}
+use Rattle.std.proofs.lemmas.Grind.{common_steps}
+use Rattle.std.proofs.Common.{◌≡◌, ℕ, zero, suc, ◌^◌, ◌<◌, ◌≤◌, cond, ◌&&◌, eqb, leb, List, [], ◌∷◌, map, length, get_or, take, Some, None, Option, sym, refl, ap, ◌∙◌, subst}
 use Rattle.std.specs.List.{AllByRecursion}
 use Rattle.std.proofs.lemmas.Bool.{and_parts, leb-true, eqb-true}
 use Rattle.schedule.specs.Plan.{Plan, flow_count}
@@ -7,13 +9,15 @@ use Rattle.schedule.specs.Limits.{within}
 use Rattle.network.specs.declared.row.Row.{Row}
 use Rattle.network.specs.Lawful.{ClocksNear, Meaning, Lawful, port_count}
 use Rattle.network.specs.Calls.{Network, Call, Reply, first_above, clock_fault, start_refused, wrong_base, wrong_counts, run, replies}
-use Rattle.network.specs.Functions.{Core, extremes, functions, new}
+use Rattle.network.specs.Functions.{Core, functions, new}
 use Rattle.network.specs.Tables.{Tables, blank, tables, reads}
 use Rattle.network.specs.Guarantee.{AllFit, kept, told, Alike, Guaranteed}
 use Rattle.network.specs.Shows.{RowShows, Shows}
 use Rattle.network.specs.Whole.{NewlyStarted, KeptPromises, CarriedOut, Whole}
 use Rattle.network.proofs.Theorem.{guarantee}
 use Rattle.network.proofs.Bridge.{tables_show}
+use Rattle.network.proofs.Accepted.{passes}
+use Rattle.std.proofs.lemmas.List.{get_or_default}
 
 -- the first calls of a list bring fit plans if all do
 take_fit : (i : ℕ) (cs : List Call) → AllFit cs → AllFit (take i cs)
@@ -21,19 +25,14 @@ take_fit zero cs b = tt
 take_fit (suc i) [] b = b
 take_fit (suc i) (c ∷ cs) b = (b.0, take_fit i cs b.1)
 
--- an outcome that is none is not some
-unrefused : {A : Type 0} (b : Bool) (x : Option A) (y : A) → cond b x (Some y) ≡ None → (b ≡ true) × (x ≡ None)
-unrefused true x y e = (refl, e)
-unrefused false x y e = let z : ◌≡◌ {A = ℕ} 0 1 = cc in absurd (omega arith)
-
 none_fault : (v : Option ℕ) → clock_fault v ≡ None → v ≡ None
 none_fault None e = refl
-none_fault (Some p) e = let z : ◌≡◌ {A = ℕ} 0 1 = cc in absurd (omega arith)
+none_fault (Some p) e = cc
 
 none_above : {K : Type 0} (bound : K → ℕ) (error k : ℕ) (ks : List K) → first_above error k (map bound ks) ≡ None → AllByRecursion (λ (x : K). bound x ≤ error) ks
 none_above bound error k [] e = tt
 none_above bound error k (x ∷ ks) e =
-    let (a, b) = unrefused (leb (bound x) error) (first_above error (suc k) (map bound ks)) k e in
+    let (a, b) = passes (leb (bound x) error) k (first_above error (suc k) (map bound ks)) e in
     (leb-true (bound x) error a, none_above bound error (suc k) ks b)
 
 -- what an accepted start tells
@@ -45,9 +44,9 @@ pub record Starts {K : Type 0} (bound : K → ℕ) (P : Plan) (B : ℕ) (ks : Li
 
 pub starts : {K : Type 0} (bound : K → ℕ) (P : Plan) (B : ℕ) (ks : List K) (count : ℕ) → start_refused P B (map bound ks) count ≡ None → Starts bound P B ks count
 starts bound P B ks count e =
-    let (a, e1) = unrefused (eqb (length (map bound ks)) (port_count P) && eqb count (port_count P))
-    (cond (within P.error (2 ^ 47) B) (clock_fault (first_above P.error 0 (map bound ks))) (Some wrong_base)) wrong_counts e in
-    let (b, e2) = unrefused (within P.error (2 ^ 47) B) (clock_fault (first_above P.error 0 (map bound ks))) wrong_base e1 in
+    let (a, e1) = passes (eqb (length (map bound ks)) (port_count P) && eqb count (port_count P)) wrong_counts
+    (cond (within P.error (2 ^ 47) B) (clock_fault (first_above P.error 0 (map bound ks))) (Some wrong_base)) e in
+    let (b, e2) = passes (within P.error (2 ^ 47) B) wrong_base (clock_fault (first_above P.error 0 (map bound ks))) e1 in
     let (lo, hi) = and_parts (leb P.error B) (leb B (2 ^ 47)) b in
     record {
       counted = eqb-true count (port_count P) (and_parts (eqb (length (map bound ks)) (port_count P)) (eqb count (port_count P)) a).1;
@@ -55,11 +54,6 @@ starts bound P B ks count e =
       high = leb-true B (2 ^ 47) hi;
       bounded = none_above bound P.error 0 ks (none_fault (first_above P.error 0 (map bound ks)) e2);
     }
-
-get_d_any : {A : Type 0} (xs : List A) (p : ℕ) (d e : A) → p < length xs → get_or xs p d ≡ get_or xs p e
-get_d_any [] p d e h = absurd (omega arith)
-get_d_any (x ∷ xs) zero d e h = refl
-get_d_any (x ∷ xs) (suc p) d e h = get_d_any xs p d e (omega arith)
 
 module _ {K : Type 0} (reading : K → ℕ → ℕ) (bound : K → ℕ) (near : (error : ℕ) (ks : List K) → AllByRecursion (λ k. bound k ≤ error) ks → ClocksNear error (reads reading ks)) where
   module _ {S : Type 0} (X : Meaning S) (law : Lawful X) (ks : List K) (n : Network (Tables S)) (cs : List Call) (fits : AllFit cs)
@@ -76,7 +70,7 @@ module _ {K : Type 0} (reading : K → ℕ → ℕ) (bound : K → ℕ) (near : 
 
       pub shown : (replies (tables ρ X) cs n ≡ replies (functions ρ X) cs m) × Shows (run (tables ρ X) cs n) (run (functions ρ X) cs m)
       shown = subst (λ z. (replies (tables ρ X) cs z ≡ replies (functions ρ X) cs m) × Shows (run (tables ρ X) cs z) (run (functions ρ X) cs m)) (sym new_n.new)
-          (tables_show n.plan n.base ρ X ss (λ p. get_or ss p d) started.high started.counted (λ p e h. get_d_any ss p e d h) cs)
+          (tables_show n.plan n.base ρ X ss (λ p. get_or ss p d) started.high started.counted (λ p e h. get_or_default ss p e d h) cs)
 
       guaranteed : {R : Type 0} (Y : Meaning R) → Lawful Y → (r : ℕ → R) → Guaranteed n.plan n.base ρ X Y (λ p. get_or ss p d) r
       guaranteed Y lawY r = guarantee n.plan n.base ρ new_n.fit started.low started.high (near n.plan.error ks started.bounded) X Y law lawY (λ p. get_or ss p d) r
@@ -93,12 +87,7 @@ module _ {K : Type 0} (reading : K → ℕ → ℕ) (bound : K → ℕ) (near : 
 
   -- rows that show the same are the same
   row_same : (r q : Row) {x y : _} {a b : List ℕ} {k l : List (ℕ × ℕ)} → RowShows r x a k → RowShows q y b l → x ≡ y → a ≡ b → k ≡ l → r ≡ q
-  row_same r q s t e f g = λ i. record {
-    flight = (s.flight ∙ e ∙ sym t.flight) i;
-    accepted = (s.accepted_count ∙ ap length f ∙ sym t.accepted_count) i;
-    delivered = (s.delivered_count ∙ ap length g ∙ sym t.delivered_count) i;
-    transits = (s.transits ∙ ap extremes g ∙ sym t.transits) i;
-  }
+  row_same r q s t e f g = grind (arith, common_steps)
 
   module _ {S R : Type 0} (X : Meaning S) (Y : Meaning R) (lawX : Lawful X) (lawY : Lawful Y)
       (ks : List K) (n : Network (Tables S)) (cs : List Call) (fc : AllFit cs) (n' : Network (Tables S)) (rs : List Reply)

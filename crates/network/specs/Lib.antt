@@ -7,6 +7,7 @@ pub mod Functions
 pub mod Tables
 pub mod Due
 pub mod Steps
+pub mod Clocked
 pub mod Traffic
 pub mod Guarantee
 pub mod Shows

@@ -11,7 +11,7 @@ use Rattle.network.specs.Tables.{flight_in}
 
 -- the port of the tables
 unfoldable pub port_of : {S : Type 0} → code.Port S → Port S
-port_of x = record { scheduled = flows x.scheduled; ordinary = map frames x.ordinary; class = x.class; until = x.until; selection = x.selection }
+port_of x = record { scheduled = flows x.scheduled; ordinary = map frames x.ordinary; class = x.wire.class; until = x.wire.until; selection = x.selection }
 
 -- the flow whose frame it put on the wire in the tick run last
 abbrev pub started_of : {S : Type 0} → code.Port S → Option ℕ

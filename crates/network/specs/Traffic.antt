@@ -6,11 +6,23 @@ use Rattle.network.specs.declared.traffic.Traffic.{Traffic}
 use Rattle.egress.specs.declared.ordinary.Frame.{Frame}
 use Rattle.network.specs.Ports.{at_place, with_frame}
 use Rattle.network.specs.Tables.{Tables}
-use Rattle.network.specs.Steps.{port_of}
+use Rattle.network.specs.Clocked.{port_in, guide_of}
 
 -- the tables
-unfoldable pub tables_of : {S : Type 0} → Traffic S → Tables S
-tables_of n = record { now = n.now; rows = vec_items n.rows; ports = map port_of (vec_items n.ports) }
+unfoldable pub tables_of : {S K : Type 0} → Traffic S K → Tables S
+tables_of n = record { now = n.now; rows = vec_items n.rows; ports = map port_in (vec_items n.ports) }
+
+-- the timetable and the clock of each port
+unfoldable pub guides_of : {S K : Type 0} → Traffic S K → List (Timetable × K)
+guides_of n = map guide_of (vec_items n.ports)
+
+-- the timetables
+abbrev pub timetables : {K : Type 0} → List (Timetable × K) → List Timetable
+timetables gs = map (λ g. g.0) gs
+
+-- the clocks
+abbrev pub clocks : {K : Type 0} → List (Timetable × K) → List K
+clocks gs = map (λ g. g.1) gs
 
 -- the octets of port p at each local tick; a port that is not there keeps every gate shut
 abbrev pub followed : List Timetable → ℕ → ℕ → ℕ

@@ -1,8 +1,10 @@
 // Where the frame of a flow is. A flow has at most one in the network.
+pub mod asks;
 
-#[derive(Clone, Copy)]
+#[derive(Clone, Copy, Default)]
 pub enum Flight {
     /// None is in the network.
+    #[default]
     Idle,
     /// It waits in the line of the port of this hop.
     Waiting {

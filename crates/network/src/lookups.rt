@@ -7,21 +7,20 @@ ghost use Rattle.network.specs.Flows.{has_next};
 use schedule::checked::CheckedPlan;
 use schedule::tables::Flow;
 
+// What the table of flows is read as past its end: `Flow` is another crate's, and has no `Default`.
+const NO_FLOW: Flow = Flow {
+    release: 0,
+    octets: 0,
+    deadline: 0,
+    first: 0,
+    hops: 0,
+};
+
 // Flow f.
 pub(crate) fn flow_of(plan: &CheckedPlan, f: usize) -> Flow
     ensures { result ≡ flow_at (checked_plan plan.now) f }
 {
-    let flows = plan.flows();
-    if f < flows.len() {
-        return flows[f];
-    }
-    Flow {
-        release: 0,
-        octets: 0,
-        deadline: 0,
-        first: 0,
-        hops: 0,
-    }
+    plan.flows().get(f).copied().unwrap_or(NO_FLOW)
 }
 
 // The port that hop h of flow f crosses.
@@ -29,14 +28,10 @@ pub(crate) fn port_of_hop(plan: &CheckedPlan, f: usize, h: usize) -> usize
     ensures { result ≡ port_at (checked_plan plan.now) f h }
 {
     let windows = plan.windows();
-    let flow = flow_of(plan, f);
-    if flow.first >= windows.len() {
-        return 0;
+    match flow_of(plan, f).first.checked_add(h) {
+        Some(i) => windows.get(i).map_or(0, |window| window.port),
+        None => 0,
     }
-    if h >= windows.len() - flow.first {
-        return 0;
-    }
-    windows[flow.first + h].port
 }
 
 // Whether flow f has a hop after hop h.
@@ -52,16 +47,12 @@ pub(crate) fn has_hop_after(plan: &CheckedPlan, f: usize, h: usize) -> bool
 pub(crate) fn wire_time(plan: &CheckedPlan, f: usize) -> u64
     ensures { (result ≡ wire_of (checked_plan plan.now) f) × (result < 2 ^ 33) }
 {
-    flow_of(plan, f).octets as u64 + 20
+    u64::from(flow_of(plan, f).octets) + 20
 }
 
 // The delay of the link that port p feeds.
 pub(crate) fn link_delay(plan: &CheckedPlan, p: usize) -> u64
     ensures { (result ≡ delay_of (checked_plan plan.now) p) × (result < 2 ^ 32) }
 {
-    let ports = plan.ports();
-    if p < ports.len() {
-        return ports[p].delay as u64;
-    }
-    0
+    plan.ports().get(p).map_or(0, |port| u64::from(port.delay))
 }

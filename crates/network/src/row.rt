@@ -11,7 +11,7 @@ pub struct Transits {
 }
 
 /// A flow's row: its frame, and what its record counts since the plan came into force.
-#[derive(Clone, Copy)]
+#[derive(Clone, Copy, Default)]
 pub struct Row {
     pub flight: Flight,
     pub accepted: u64,
@@ -19,7 +19,7 @@ pub struct Row {
     pub transits: Option<Transits>,
 }
 
-/// The record of a flow, as it is read.
+/// The record of a flow, as it is read. Not a row: where the frame is stays within.
 #[derive(Clone, Copy)]
 pub struct FlowRecord {
     pub accepted: u64,

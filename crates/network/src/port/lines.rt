@@ -1,39 +1,47 @@
 // What is done to the lines of a port.
-ghost use Rattle.std.specs.Prelude.{◌≡◌, ℕ, ◌+◌, ◌^◌, ◌<◌, ◌≤◌, [], ◌∷◌, ◌++◌, map, length, take, if◌then◌else◌, Some, None, nat_lt, slice_index_or};
-ghost use Rattle.schedule.specs.Plan.{wire_of};
+ghost use Rattle.std.specs.Prelude.{◌≡◌, ℕ, ◌+◌, ◌^◌, ◌<◌, ◌≤◌, Bool, [], ◌∷◌, ◌++◌, map, length, take, if◌then◌else◌, slice_index_or};
 ghost use Rattle.schedule.specs.Checks.{checked_plan};
 ghost use Rattle.gates.specs.Octets.{opens};
 ghost use Rattle.egress.specs.Lines.{flows, frames};
 ghost use Rattle.egress.specs.Waiting.{rest};
 ghost use Rattle.network.specs.Flows.{joins};
-ghost use Rattle.network.specs.Ports.{at_place, listed, time_of_first, frame_time};
+ghost use Rattle.network.specs.Ports.{at_place, listed, mask_of, time_of_first, frame_time};
 ghost use Rattle.network.specs.Tables.{flight_in};
-ghost use Rattle.network.specs.Due.{some_due};
 
-use crate::lookups::wire_time;
-use crate::row::Row;
-use crate::row::acts::joins_at;
-use egress::ordinary::{Frame, FrameLine};
+use crate::moment::Arrivals;
+use egress::ordinary::FrameLine;
 use egress::scheduled::FlowLine;
-use schedule::checked::CheckedPlan;
 
 // A mask of classes below `class`, with `class` or without.
-pub(crate) fn with_class(mask: u8, class: u8, on: bool) -> u8
+fn with_class(mask: u8, class: u8, on: bool) -> u8
     requires { (class < 8) × (mask < 2 ^ class) }
     ensures { result ≡ mask + (if on then 2 ^ class else 0) }
 {
     if on { mask + (1 << class) } else { mask }
 }
 
+// The classes that a test admits, as a mask. A loop: each bit that is added needs that the mask so far lies below it.
+#[tactic(auto, using(crate::proofs::Masks::mask_fits, crate::proofs::Masks::mask_start, crate::proofs::Masks::mask_step))]
+pub(crate) fn classes<F: Fn(u8) -> bool>(admits: F) -> u8
+    requires { F.IsAlwaysCallable admits }
+    ensures { (q : ℕ → Bool) → ((c : ℕ) (b : Bool) → c < 8 → F.post admits c b → b ≡ q c) → result ≡ mask_of q }
+{
+    let mut mask = 0;
+    for class in 0..8 {
+        mask = with_class(mask, class, admits(class));
+    }
+    mask
+}
+
 // Whether the gate of a class is open.
 pub(crate) fn is_open(octet: u8, class: u8) -> bool
-    requires { class < 8 }
     ensures { result ≡ opens octet class }
 {
-    (octet >> class) & 1 == 1
+    class < 8 && (octet >> class) & 1 == 1
 }
 
 // A flow joins the line, if there is room.
+#[tactic(auto, using(crate::proofs::Joining::joined_take))]
 pub(crate) fn add_flow(line: &mut FlowLine, f: u8)
     requires { length (flows line.old) ≤ 16 }
     ensures { flows line.new ≡ take 16 (flows line.old ++ f ∷ []) }
@@ -41,85 +49,47 @@ pub(crate) fn add_flow(line: &mut FlowLine, f: u8)
     let _ = line.push(f);
 }
 
-// Those that reach port p at tick t join its line, the lower flow first.
-fn join_each(line: &mut FlowLine, plan: &CheckedPlan, rows: &[Row], t: u64, p: usize)
-    requires { (length (flows line.old) ≤ 16) × (length rows.now ≤ 16) }
-    ensures { flows line.new ≡ take 16 (flows line.old ++ listed (length rows.now) (λ f. joins (checked_plan plan.now) t p f (flight_in rows.now f))) }
+// Those that reach port p join its line, the lower flow first.
+#[tactic(auto, using(crate::proofs::Joining::join_start, crate::proofs::Joining::join_more, crate::proofs::Joining::join_same, crate::proofs::Joining::join_none, crate::proofs::Joining::none_joins))]
+pub(crate) fn join(line: &mut FlowLine, arrivals: &Arrivals<'_>, p: usize)
+    requires { length (flows line.old) ≤ 16 }
+    ensures { flows line.new ≡ take 16 (flows line.old ++ listed (length arrivals.now.rows.now) (λ f. joins (checked_plan arrivals.now.plan.now) arrivals.now.t p f (flight_in arrivals.now.rows.now f))) }
 {
-    for (f, row) in rows.iter().enumerate() {
-        if joins_at(plan, row.flight, t, p, f) {
+    if !arrivals.any {
+        return;
+    }
+    for (f, row) in arrivals.rows.iter().enumerate() {
+        if row.flight.joins(arrivals, p, f) {
+            // There are at most 16 flows, so that no bit is lost.
             add_flow(line, f as u8);
         }
     }
 }
 
-// The same, without a look where none is due anywhere.
-pub(crate) fn join_due(
-    line: &mut FlowLine,
-    plan: &CheckedPlan,
-    rows: &[Row],
-    due: bool,
-    t: u64,
-    p: usize,
-)
-    requires { (length (flows line.old) ≤ 16) × (length rows.now ≤ 16) × (due ≡ some_due t rows.now) }
-    ensures { flows line.new ≡ take 16 (flows line.old ++ listed (length rows.now) (λ f. joins (checked_plan plan.now) t p f (flight_in rows.now f))) }
-{
-    if due {
-        join_each(line, plan, rows, t, p);
-    }
-}
-
-// The wire time of the first scheduled frame, 0 if none waits.
-pub(crate) fn scheduled_time(line: &FlowLine, plan: &CheckedPlan) -> u64
-    ensures { (result ≡ time_of_first (wire_of (checked_plan plan.now)) (flows line.now)) × (result < 2 ^ 33) }
-{
-    match line.first() {
-        Some(f) => wire_time(plan, f as usize),
-        None => 0,
-    }
-}
-
 // The wire time of the first frame of an ordinary class, 0 if none waits.
-pub(crate) fn ordinary_time(lines: &[FrameLine; 7], class: usize) -> u64
-    requires { class < 7 }
+pub(crate) fn frame_time(lines: &[FrameLine; 7], class: usize) -> u64
     ensures { (result ≡ time_of_first frame_time (slice_index_or (map frames lines.now) class [])) × (result < 2 ^ 33) }
 {
-    match lines[class].first() {
-        Some(frame) => frame.octets as u64 + 20,
-        None => 0,
-    }
+    lines
+        .get(class)
+        .and_then(FrameLine::first)
+        .map_or(0, |frame| u64::from(frame.octets) + 20)
 }
 
 // The first frame of an ordinary class leaves its line.
+#[tactic(auto, using(crate::proofs::Places::place_seen, crate::proofs::Places::place_none))]
 pub(crate) fn drop_first(lines: &mut [FrameLine; 7], class: usize)
-    requires { class < 7 }
     ensures { map frames lines.new ≡ at_place class rest (map frames lines.old) }
 {
-    let _ = lines[class].take();
-}
-
-// A frame joins the line of an ordinary class in which there is room.
-pub(crate) fn add_frame(lines: &mut [FrameLine; 7], class: usize, frame: Frame)
-    requires { (class < 7) × (length (slice_index_or (map frames lines.old) class []) < 8) }
-    ensures { map frames lines.new ≡ at_place class (λ line. line ++ frame ∷ []) (map frames lines.old) }
-{
-    let _ = lines[class].push(frame);
+    // By index: of a line that `get_mut` lends no clause says what the array then holds.
+    if class < 7 {
+        let _ = lines[class].take();
+    }
 }
 
 // How many frames of an ordinary class wait.
 pub(crate) fn line_len(lines: &[FrameLine; 7], class: usize) -> usize
     ensures { result ≡ length (slice_index_or (map frames lines.now) class []) }
 {
-    if class >= 7 {
-        return 0;
-    }
-    lines[class].len()
-}
-
-// What is on the wire at tick t.
-pub(crate) fn on_wire(t: u64, until: u64, class: u8) -> Option<u8>
-    ensures { result ≡ (if nat_lt t until then Some class else None) }
-{
-    if t < until { Some(class) } else { None }
+    lines.get(class).map_or(0, FrameLine::len)
 }

@@ -1,26 +1,27 @@
-// One tick of every port and of every row.
-ghost use Rattle.network.specs.Lawful.{meaning};
-ghost use Rattle.std.specs.Prelude.{◌≡◌, ℕ, ◌^◌, ◌<◌, ◌≤◌, map, length, None, slice_index_or};
+// One tick of every row.
+ghost use Rattle.std.specs.Prelude.{◌≡◌, ℕ, ◌^◌, ◌<◌, map, None, slice_index_or};
 ghost use Rattle.schedule.specs.Checks.{checked_plan};
-ghost use Rattle.network.specs.Tables.{over, reads, port_through, row_landed, row_departed};
-ghost use Rattle.network.specs.Steps.{seen, started_of};
-ghost use Rattle.network.specs.Traffic.{followed};
+ghost use Rattle.network.specs.Flows.{is_flow};
+ghost use Rattle.network.specs.Tables.{over, row_landed, row_departed};
+ghost use Rattle.network.specs.Clocked.{started_in};
 
+use crate::clocked::ClockedPort;
 use crate::flight::Flight;
 use crate::lookups::{link_delay, port_of_hop, wire_time};
-use crate::port::Port;
-use crate::port::places::has_started;
 use crate::row::Row;
-use crate::row::acts::{any_due, land};
-use egress::clock::Clock;
-use egress::selection::Selection;
-use gates::timetable::Timetable;
 use schedule::checked::CheckedPlan;
 
+// Whether port p has put the frame of flow f on the wire in the tick run last.
+fn has_started<S, K>(ports: &[ClockedPort<S, K>], p: usize, f: usize) -> bool
+    ensures { result ≡ is_flow (slice_index_or (map started_in ports.now) p None) f }
+{
+    ports.get(p).is_some_and(|at| at.port.has_started(f))
+}
+
 // Step 2 of tick t, for flow f: its frame goes if the port where it waits has put it on the wire.
-fn depart<S>(row: &mut Row, plan: &CheckedPlan, ports: &[Port<S>], t: u64, f: usize)
+fn depart<S, K>(row: &mut Row, plan: &CheckedPlan, ports: &[ClockedPort<S, K>], t: u64, f: usize)
     requires { t < 2 ^ 49 }
-    ensures { row.new ≡ row_departed (checked_plan plan.now) t (λ p. slice_index_or (map started_of ports.now) p None) f row.old }
+    ensures { row.new ≡ row_departed (checked_plan plan.now) t (λ p. slice_index_or (map started_in ports.now) p None) f row.old }
 {
     if let Flight::Waiting { hop, release } = row.flight {
         let p = port_of_hop(plan, f, hop);
@@ -35,35 +36,19 @@ fn depart<S>(row: &mut Row, plan: &CheckedPlan, ports: &[Port<S>], t: u64, f: us
     }
 }
 
-// Tick t of the rows, once the ports have run it.
-pub(crate) fn step_rows<S>(rows: &mut [Row], plan: &CheckedPlan, ports: &[Port<S>], t: u64)
-    requires { t < 2 ^ 49 }
-    ensures { rows.new ≡ over (λ f r. row_departed (checked_plan plan.now) t (λ p. slice_index_or (map started_of ports.now) p None) f (row_landed (checked_plan plan.now) t f r)) 0 rows.old }
-{
-    for (f, row) in rows.iter_mut().enumerate() {
-        land(row, plan, t, f);
-        depart(row, plan, ports, t, f);
-    }
-}
-
-// Tick t of the ports, by the rows as they were.
-pub(crate) fn step_ports<S: Selection, K: Clock>(
-    ports: &mut [Port<S>],
+// Tick t of the rows, once the ports have run it. The plan, the ports and the tick go to two functions alone, and stay apart.
+#[tactic(auto, using(crate::proofs::Loops::over_turn, crate::proofs::Loops::over_all))]
+pub(crate) fn step_rows<S, K>(
+    rows: &mut [Row],
     plan: &CheckedPlan,
-    rows: &[Row],
-    timetables: &[Timetable],
-    clocks: &[K],
+    ports: &[ClockedPort<S, K>],
     t: u64,
 )
-    requires sized { (length timetables.now ≡ length ports.old) × (length clocks.now ≡ length ports.old) × (length rows.now ≤ 16) }
-    requires within { t < 2 ^ 49 }
-    ensures { map seen ports.new ≡ over (λ p x. port_through (meaning S.Selection.held S.Selection.pick S.Selection.passed) (checked_plan plan.now) t rows.now (followed timetables.now p) (reads K.Clock.reading clocks.now p t) p x.0) 0 (map seen ports.old) }
+    requires { t < 2 ^ 49 }
+    ensures { rows.new ≡ over (λ f r. row_departed (checked_plan plan.now) t (λ p. slice_index_or (map started_in ports.now) p None) f (row_landed (checked_plan plan.now) t f r)) 0 rows.old }
 {
-    let due = any_due(rows, t);
-    for (p, port) in ports.iter_mut().enumerate() {
-        let gates = &timetables[p];
-        let l = clocks[p].read(t);
-        port.join(plan, rows, due, t, p);
-        port.step(plan, gates, gates.octet(l), t, l);
+    for (f, row) in rows.iter_mut().enumerate() {
+        row.land(plan, t, f);
+        depart(row, plan, ports, t, f);
     }
 }

@@ -1,31 +1,15 @@
-use Rattle.std.proofs.Common.{◌≡◌, List, map, length, vec_items, sym, refl, ap, ◌∙◌, arith}
-use Rattle.std.proofs.lemmas.List.{with_items_is, length-map}
-use Rattle.network.specs.declared.port.Port.{Port}
-use Rattle.network.specs.Ports.{at_place, with_frame, line_length}
-use Rattle.network.specs.Tables.{at_or}
-use Rattle.network.specs.Steps.{port_of}
+use Rattle.std.proofs.Common.{◌≤◌, map, vec_items, sym, arith}
+use Rattle.std.proofs.lemmas.List.{length-map}
+use Rattle.network.specs.Ports.{with_frame}
+use Rattle.network.specs.Clocked.{port_in}
 use Rattle.network.specs.Traffic.{tables_of, lined_table}
-use Rattle.network.proofs.Places.{length_place}
+use Rattle.network.proofs.Places.{place_none, past_end}
 use Rattle.network.proofs.traffic.Traffic.take_frame.Goals as goal
 
-pub enqueue_at-requires : goal.enqueue_at-requires
-unfolding tables_of
-enqueue_at-requires g c =
-    let s = c.args.self.now in
-    let e = ap (λ (l : List (Port g.row.S.Denot)). at_or (line_length c.args.class) 0 (map port_of l) c.args.p) c.as_mut_slice.ensures.value in
-    (omega (arith, c.requires.0, c.as_mut_slice.ensures.len), c.requires.1, omega (arith, c.requires.2, e))
-
-pub returns : goal.returns
+pub returns-in_default-clause-view : goal.returns-in_default-clause-view
 unfolding tables_of lined_table
-returns g c =
-    let s = c.args.self.now in
-    let ys : List (Port g.row.S.Denot) = c.enqueue_at.new.ports in
-    let F = with_frame c.args.class c.args.frame in
-    let a : map port_of ys ≡ at_place c.args.p F (map port_of (vec_items s.ports))
-    = c.enqueue_at.ensures ∙ ap (λ (l : List (Port g.row.S.Denot)). at_place c.args.p F (map port_of l)) c.as_mut_slice.ensures.value in
-    let n : length ys ≡ s.ports.len = sym (length-map ys port_of) ∙ ap length a ∙ length_place c.args.p F (map port_of (vec_items s.ports)) ∙ length-map (vec_items s.ports) port_of ∙ sym s.ports.ok.0 in
-    let e = with_items_is s.ports ys n in
-    record {
-      view = λ i. record { now = s.now; rows = vec_items s.rows; ports = (ap (map port_of) e ∙ a) i };
-      kept = (refl, refl, refl);
-    }
+returns-in_default-clause-view g c =
+    let s = c.args.self.now in let k = c.args.p in
+    let past : s.ports.len ≤ k = past_end k s.ports.len c.in_default.ensures.variant.1 in
+    let q = place_none k (with_frame c.args.class c.args.frame) (map port_in (vec_items s.ports)) (omega (arith, length-map (vec_items s.ports) port_in, s.ports.ok.0)) in
+    λ i. record { now = s.now; rows = vec_items s.rows; ports = sym q i }
