@@ -5,22 +5,14 @@ ghost use Rattle.schedule.specs.Checks.{checked_plan};
 ghost use Rattle.network.specs.Flows.{has_next};
 
 use schedule::checked::CheckedPlan;
+use schedule::limits::FRAME_OVERHEAD;
 use schedule::tables::Flow;
-
-// What the table of flows is read as past its end: `Flow` is another crate's, and has no `Default`.
-const NO_FLOW: Flow = Flow {
-    release: 0,
-    octets: 0,
-    deadline: 0,
-    first: 0,
-    hops: 0,
-};
 
 // Flow f.
 pub(crate) fn flow_of(plan: &CheckedPlan, f: usize) -> Flow
     ensures { result ≡ flow_at (checked_plan plan.now) f }
 {
-    plan.flows().get(f).copied().unwrap_or(NO_FLOW)
+    plan.flows().get(f).copied().unwrap_or_default()
 }
 
 // The port that hop h of flow f crosses.
@@ -47,7 +39,7 @@ pub(crate) fn has_hop_after(plan: &CheckedPlan, f: usize, h: usize) -> bool
 pub(crate) fn wire_time(plan: &CheckedPlan, f: usize) -> u64
     ensures { (result ≡ wire_of (checked_plan plan.now) f) × (result < 2 ^ 33) }
 {
-    u64::from(flow_of(plan, f).octets) + 20
+    u64::from(flow_of(plan, f).octets) + FRAME_OVERHEAD
 }
 
 // The delay of the link that port p feeds.

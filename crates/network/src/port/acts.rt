@@ -9,13 +9,14 @@ ghost use Rattle.network.specs.Ports.{empty_port, mask_of, flow_sent};
 ghost use Rattle.network.specs.Steps.{port_of, seen, has_waiting, timing, ready, joining, choosing, sending, passing, stepping};
 
 use super::Port;
-use super::lines::{classes, drop_first, frame_time, is_open, join, line_len};
+use super::lines::{classes, drop_first, frame_time, join, line_len};
 use crate::lookups::wire_time;
 use crate::moment::{Arrivals, Moment};
 use crate::wire::Wire;
 use egress::ordinary::FrameLine;
 use egress::scheduled::FlowLine;
 use egress::selection::Selection;
+use gates::entry::is_open;
 use schedule::checked::CheckedPlan;
 
 impl<S> Port<S> {

@@ -1,7 +1,6 @@
 // What is done to the lines of a port.
 ghost use Rattle.std.specs.Prelude.{◌≡◌, ℕ, ◌+◌, ◌^◌, ◌<◌, ◌≤◌, Bool, [], ◌∷◌, ◌++◌, map, length, take, if◌then◌else◌, slice_index_or};
 ghost use Rattle.schedule.specs.Checks.{checked_plan};
-ghost use Rattle.gates.specs.Octets.{opens};
 ghost use Rattle.egress.specs.Lines.{flows, frames};
 ghost use Rattle.egress.specs.Waiting.{rest};
 ghost use Rattle.network.specs.Flows.{joins};
@@ -11,6 +10,7 @@ ghost use Rattle.network.specs.Tables.{flight_in};
 use crate::moment::Arrivals;
 use egress::ordinary::FrameLine;
 use egress::scheduled::FlowLine;
+use schedule::limits::FRAME_OVERHEAD;
 
 // A mask of classes below `class`, with `class` or without.
 fn with_class(mask: u8, class: u8, on: bool) -> u8
@@ -31,13 +31,6 @@ pub(crate) fn classes<F: Fn(u8) -> bool>(admits: F) -> u8
         mask = with_class(mask, class, admits(class));
     }
     mask
-}
-
-// Whether the gate of a class is open.
-pub(crate) fn is_open(octet: u8, class: u8) -> bool
-    ensures { result ≡ opens octet class }
-{
-    class < 8 && (octet >> class) & 1 == 1
 }
 
 // A flow joins the line, if there is room.
@@ -73,7 +66,7 @@ pub(crate) fn frame_time(lines: &[FrameLine; 7], class: usize) -> u64
     lines
         .get(class)
         .and_then(FrameLine::first)
-        .map_or(0, |frame| u64::from(frame.octets) + 20)
+        .map_or(0, |frame| u64::from(frame.octets) + FRAME_OVERHEAD)
 }
 
 // The first frame of an ordinary class leaves its line.

@@ -1,9 +1,8 @@
 use Rattle.std.proofs.Common.{ltb, List, [], ◌∷◌, ◌++◌, length, get_or, ◌<◌, ap, ◌∙◌, arith}
 use Rattle.std.proofs.lemmas.List.{get_or-map}
 use Rattle.std.proofs.lemmas.Bool.{cond-true, lt-ltb}
-use Rattle.egress.specs.Lines.{flows, frames}
+use Rattle.egress.specs.Lines.{FrameLine, flows, frames}
 use Rattle.egress.specs.declared.ordinary.Frame.{Frame}
-use Rattle.egress.specs.declared.ordinary.FrameLine.{FrameLine}
 use Rattle.network.specs.Steps.{port_of, lining}
 use Rattle.network.proofs.Places.{place_seen}
 use Rattle.network.proofs.port.Port.enqueue.Goals as goal
