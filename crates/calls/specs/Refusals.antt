@@ -1,10 +1,8 @@
 -- The refusals of all calls as one kind, and their numbers.
 use Rattle.std.specs.Prelude.{ℕ, Some, None, Option}
 use Rattle.schedule.specs.declared.refusal.OpenRefusal.{OpenRefusal}
-use Rattle.schedule.specs.declared.refusal.OpenRefusal.TheVariants as OpenRefusal
 use Rattle.schedule.specs.Numbers.{open_number, flow_number, certificate_number, fault_number}
 use Rattle.gates.specs.declared.refusal.GateRefusal.{GateRefusal}
-use Rattle.gates.specs.declared.refusal.GateRefusal.TheVariants as GateRefusal
 use Rattle.gates.specs.Numbers.{gate_number}
 use Rattle.calls.specs.declared.refusal.Refusal.{Refusal}
 use Rattle.calls.specs.declared.refusal.Refusal.TheVariants.{Open, Flow, Certificate, Gates, Faulty, OutOfOrder, OutOfMemory}

@@ -19,7 +19,6 @@ use Rattle.scenario.specs.Lines.{Asked, opens, places, adds, checks, certifies, 
 use Rattle.calls.specs.declared.session.Session.{Session}
 use Rattle.calls.specs.declared.refusal.Missing.TheVariants as Missing
 use Rattle.calls.specs.declared.refusal.Refusal.{Refusal}
-use Rattle.calls.specs.declared.refusal.Refusal.TheVariants as Refusal
 use Rattle.calls.specs.Refusals.{open_refusal, gate_refusal}
 use Rattle.calls.specs.declared.reply.Reply.{Reply}
 use Rattle.calls.specs.declared.reply.Reply.TheVariants.{Opened, Placed, Added, Checked, Certificate, Gates}

@@ -6,11 +6,9 @@ use Rattle.schedule.specs.Numbers.{fault_number, fault_place}
 use Rattle.gates.specs.Texts.{list_text}
 use Rattle.calls.specs.Refusals.{refusal_number}
 use Rattle.calls.specs.declared.refusal.Missing.{Missing}
-use Rattle.calls.specs.declared.refusal.Missing.TheVariants as Missing
 use Rattle.calls.specs.declared.refusal.Refusal.{Refusal}
 use Rattle.calls.specs.declared.refusal.Refusal.TheVariants.{Open, Flow, Certificate, Gates, Faulty, OutOfOrder, OutOfMemory}
 use Rattle.calls.specs.declared.reply.Reply.{Reply}
-use Rattle.calls.specs.declared.reply.Reply.TheVariants as Reply
 
 -- a number behind a blank
 abbrev pub next_number : ℕ → List ℕ
