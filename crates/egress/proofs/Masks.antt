@@ -1,16 +1,7 @@
 -- The highest class of a set, and that class 7 is held back by no selection.
-use Rattle.std.proofs.Common.{◌≡◌, ℕ, zero, suc, ◌-◌, ◌*◌, ◌^◌, ◌<◌, ◌≤◌, Some, None, Option, refl, sym, ap, ◌∙◌, pow-suc, arith}
-use Rattle.std.proofs.lemmas.Nat.{pow_pos}
-use Rattle.std.specs.Int.Count.{leading_unique}
-use Rattle.egress.specs.Mask.{In, highest, Within, Picks, SparesSeven}
-use Rattle.egress.specs.Masks.{in_below, highest_some}
-
--- the power of two at the head of a set is its highest class
-pub highest_is : (m k : ℕ) → 2 ^ k ≤ m → m < 2 * 2 ^ k → k < 8 → Some k ≡ highest m
-highest_is m k p q b =
-    let s = pow-suc 2 k in
-    let l = leading_unique 8 m (7 - k) (suc k) (omega arith) (omega arith) (omega arith) in
-    sym (highest_some m (λ e. omega (arith, pow_pos k)) ∙ ap Some (omega arith))
+use Rattle.std.proofs.Common.{◌≡◌, ℕ, zero, suc, ◌<◌, Some, None, Option, refl, ap, arith}
+use Rattle.egress.specs.Mask.{In, Within, Picks, SparesSeven}
+use Rattle.egress.specs.Masks.{in_below}
 
 -- what holds of each class holds of every number below 8
 pub by_class : (P : ℕ → Type 0) → P 0 → P 1 → P 2 → P 3 → P 4 → P 5 → P 6 → P 7 → (c : ℕ) → c < 8 → P c

@@ -10,12 +10,14 @@ use crate::selection::Selection;
 #[derive(Clone, Copy)]
 pub struct StrictPriority;
 
-// The highest class of a set.
-#[tactic(auto, using(crate::proofs::Masks::highest_is))]
+// The highest class of a set, by the leading zeros of its mask.
 pub(crate) fn highest_class(classes: u8) -> Option<u8>
     ensures { result ≡ highest classes }
 {
-    Some(classes.checked_ilog2()? as u8)
+    if classes == 0 {
+        return None;
+    }
+    Some((7 - classes.leading_zeros()) as u8)
 }
 
 impl Selection for StrictPriority {
