@@ -76,6 +76,7 @@ impl fmt::Display for Refusal {
 
 impl Error for Refusal {}
 
+// Written out, since contracts name which refusal each becomes (`from_gives`): what a derive writes has no such clause.
 impl From<OpenRefusal> for Refusal {
     ghost from_gives = { λ x r. r ≡ open_refusal x };
 

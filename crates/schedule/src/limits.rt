@@ -40,6 +40,7 @@ fn do_ports_differ(count: usize, route: &[u64]) -> bool
     ensures { result ≡ ports_differ count route.now }
 {
     for (hop, port) in route.iter().enumerate() {
+        // a `usize` has 64 bits, so that no bit is lost; there is no `From`
         if *port >= count as u64 {
             return false;
         }

@@ -104,6 +104,7 @@ impl Session {
         let Some(plan) = &self.plan else {
             return Err(Refusal::OutOfOrder(Missing::CheckedPlan));
         };
+        // a `usize` has 64 bits, so that no bit is lost; there is no `From`
         let (least, greatest) = plan.certificate(flow as usize)?;
         Ok(Reply::Certificate { least, greatest })
     }
@@ -114,6 +115,7 @@ impl Session {
         let Some(plan) = &self.plan else {
             return Err(Refusal::OutOfOrder(Missing::CheckedPlan));
         };
+        // likewise
         let list = GateList::of_port(heap, plan, port as usize)?;
         Ok(Reply::Gates { list })
     }

@@ -13,6 +13,7 @@ impl Draft {
     fn first_fault(&self) -> Option<Fault>
         ensures { MatchOption result (Good (plan_of self.now)) (FirstFault (plan_of self.now)) }
     {
+        // by number, which the fault names
         for flow in 0..self.flows.len() {
             if let Some((hop, rule)) = self.broken_hop(flow) {
                 return Some(Fault {

@@ -82,7 +82,7 @@ impl<'a> Hop<'a> {
         self.draft.windows[self.of_flow().first + self.hop]
     }
 
-    // The wire time of the frame.
+    // The wire time of the frame. (The cast is proved to lose no bits.)
     fn wire(&self) -> u32
         ensures is { result ≡ wire_of (plan_of self.now.draft.now) self.now.flow }
         ensures most { result ≤ 1542 }

@@ -81,6 +81,7 @@ impl<'a> Hop<'a> {
     pub(super) fn close_window(&self) -> Option<Hop<'a>>
         ensures { MatchOption result (StandsApart (plan_of self.now.draft.now) self.now.flow self.now.hop) (λ x. (x.draft.now ≡ self.now.draft.now) × TooClose (plan_of self.now.draft.now) self.now.flow self.now.hop x.flow x.hop) }
     {
+        // by number: only the lower flows
         for other in 0..self.flow {
             if let Some(near) = self.close_in_flow(other) {
                 return Some(near);
@@ -127,6 +128,7 @@ impl Draft {
         requires { flow < flow_count (plan_of self.now) }
         ensures { MatchOption result (FlowKeeps (plan_of self.now) flow) (λ x. (x.0.draft.now ≡ self.now) × (x.0.flow ≡ flow) × Breaks (plan_of self.now) x.1 flow x.0.hop × ((h : ℕ) → h < x.0.hop → KeepsRules (plan_of self.now) flow h)) }
     {
+        // by number, of which a `Hop` is made
         for hop in 0..self.flows[flow].hops {
             let hop = Hop {
                 draft: self,
