@@ -5,4 +5,5 @@ pub mod call;
 pub mod line;
 mod number;
 mod reads;
+pub mod shown;
 mod words;

@@ -4,8 +4,6 @@ ghost use Rattle.std.specs.Option.{ok_or, option_copied, option_map};
 ghost use Rattle.scenario.specs.declared.call.Problem.TheVariants.{UnknownCall};
 ghost use Rattle.scenario.specs.Texts.{left};
 ghost use Rattle.scenario.specs.Lines.{asks, numbers_of, flow_form, open_form, place_form, add_form, number_form, name_of, call_form, line_form, has_lists, line_has_lists, Reads};
-ghost use Rattle.scenario.specs.Examples.{Examples};
-ghost use Rattle.scenario.specs.Written.{ReadsBack};
 
 use crate::call::{Call, FlowNumbers, Problem};
 use crate::words::Words;
@@ -132,16 +130,6 @@ pub fn parse_line(heap: Global, line: &str) -> Result<Option<Call>, Problem>
     let call = read_call(heap, name, &mut words)?;
     Ok(Some(call))
 }
-
-/// The examples of `specs/Examples.antt` are read as they say.
-pub fn examples_stand()
-    ensures { Examples }
-{}
-
-/// A line that is written for a call is read as that call.
-pub fn calls_read_back()
-    ensures { ReadsBack }
-{}
 
 #[cfg(test)]
 mod tests {
