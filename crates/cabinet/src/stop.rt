@@ -1,30 +1,15 @@
 // Why a scenario ends before its last line.
 use scenario::call::Problem;
-use std::error::Error;
-use std::{fmt, io};
+use std::io;
+use thiserror::Error;
 
 /// What went wrong, and at which line where the line is at fault.
-#[derive(Debug, Drop)]
+#[derive(Debug, Drop, Error)]
 pub enum Stop {
+    #[error("line {line}: {problem}")]
     NoCall { line: usize, problem: Problem },
+    #[error("out of memory")]
     OutOfMemory,
-    Stream(io::Error),
+    #[error("{0}")]
+    Stream(#[from] io::Error),
 }
-
-impl From<io::Error> for Stop {
-    fn from(e: io::Error) -> Stop {
-        Stop::Stream(e)
-    }
-}
-
-impl fmt::Display for Stop {
-    fn fmt<W: fmt::Write>(&self, f: &mut fmt::Formatter<W>) -> fmt::Result {
-        match self {
-            Stop::NoCall { line, problem } => write!(f, "line {line}: {problem}"),
-            Stop::OutOfMemory => f.write_str("out of memory"),
-            Stop::Stream(e) => write!(f, "{e}"),
-        }
-    }
-}
-
-impl Error for Stop {}

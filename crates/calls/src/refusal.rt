@@ -60,17 +60,18 @@ impl fmt::Display for Refusal {
     ghost output = { λ r. Some (refusal_text r) };
 
     fn fmt<W: fmt::Write>(&self, f: &mut fmt::Formatter<W>) -> fmt::Result {
-        if let Refusal::OutOfOrder(missing) = self {
-            return write!(f, "out of order: {missing}");
+        match self {
+            Refusal::OutOfOrder(missing) => write!(f, "out of order: {missing}"),
+            Refusal::Faulty(fault) => {
+                let number = fault.number();
+                let (flow, hop) = fault.place();
+                write!(f, "refused {number} flow {flow} hop {hop}")
+            }
+            _ => match self.number() {
+                Some(number) => write!(f, "refused {number}"),
+                None => f.write_str("out of memory"),
+            },
         }
-        let Some(number) = self.number() else {
-            return f.write_str("out of memory");
-        };
-        if let Refusal::Faulty(fault) = self {
-            let (flow, hop) = fault.place();
-            return write!(f, "refused {number} flow {flow} hop {hop}");
-        }
-        write!(f, "refused {number}")
     }
 }
 

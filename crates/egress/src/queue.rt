@@ -5,6 +5,7 @@ ghost use Rattle.egress.specs.Waiting.{empty_line, front, rest, joined, stored, 
 
 use crate::line::{Full, Line};
 
+// Not the library's `Default`: of a type that is not known it promises no one value.
 /// What can wait in a queue.
 pub trait Entry: Copy {
     // what stands in a slot before any entry does

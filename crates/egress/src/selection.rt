@@ -16,10 +16,10 @@ pub trait Selection {
     // the state after a pass
     ghost passed: { Self → Option ℕ → ℕ → ℕ → Self };
 
-    /// The same, for code.
+    /// The classes that this kind may ever hold back, for code.
     const MASK: u8;
 
-    /// The classes that this kind may ever hold back.
+    /// The same as `MASK`.
     fn may_hold() -> u8
         ensures { result ≡ MASK }
     {

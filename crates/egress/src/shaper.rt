@@ -11,7 +11,7 @@ use crate::setting::Refused;
 use crate::shaped::Shaped;
 use crate::strict::highest_class;
 
-// Two fields and no array: contracts and callers name the two classes.
+// Two fields and no array: contracts name the two classes.
 /// The two shaped classes.
 #[derive(Clone, Copy)]
 pub struct Shaper {
@@ -19,7 +19,7 @@ pub struct Shaper {
     five: Shaped,
 }
 
-// Whether a class is in a set.
+// Whether a class is in a set. (`gates` asks the same of octets; neither crate stands on the other.)
 fn is_in(set: u8, class: u8) -> bool
     requires { class < 8 }
     ensures { result ≡ has set class }

@@ -17,6 +17,7 @@ pub(crate) fn highest_class(classes: u8) -> Option<u8>
     if classes == 0 {
         return None;
     }
+    // a class has few bits, and the cast is proved to lose none: `try_from` would have an error that cannot come
     Some((7 - classes.leading_zeros()) as u8)
 }
 

@@ -12,6 +12,7 @@ pub enum GateRefusal {
     OutOfMemory,
 }
 
+// Written out, since contracts name what it gives (`from_gives`): what a derive writes has no such clause.
 impl From<AllocError> for GateRefusal {
     ghost from_gives = { λ _ r. r ≡ OutOfMemory };
 

@@ -1,5 +1,5 @@
 -- The tables that the frames and ports of the code stand for, and the timetables that they follow.
-use Rattle.std.specs.Prelude.{ℕ, zero, suc, List, [], ◌∷◌, map, vec_items}
+use Rattle.std.specs.Prelude.{◌≡◌, ℕ, zero, suc, List, [], ◌∷◌, map, vec_items, vec_len}
 use Rattle.gates.specs.declared.timetable.Timetable.{Timetable}
 use Rattle.gates.specs.Lookup.{octets}
 use Rattle.network.specs.declared.traffic.Traffic.{Traffic}
@@ -15,6 +15,10 @@ tables_of n = record { now = n.now; rows = vec_items n.rows; ports = map port_in
 -- the timetable and the clock of each port
 unfoldable pub guides_of : {S K : Type 0} → Traffic S K → List (Timetable × K)
 guides_of n = map guide_of (vec_items n.ports)
+
+-- after a call there are the ports that there were, with their timetables and clocks
+abbrev pub KeepsPorts : {S K : Type 0} → Traffic S K → Traffic S K → Type 0
+KeepsPorts before after = (vec_len after.ports ≡ vec_len before.ports) × (guides_of after ≡ guides_of before)
 
 -- the timetables
 abbrev pub timetables : {K : Type 0} → List (Timetable × K) → List Timetable

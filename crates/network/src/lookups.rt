@@ -19,11 +19,12 @@ pub(crate) fn flow_of(plan: &CheckedPlan, f: usize) -> Flow
 pub(crate) fn port_of_hop(plan: &CheckedPlan, f: usize, h: usize) -> usize
     ensures { result ≡ port_at (checked_plan plan.now) f h }
 {
+    // in the whole table, as the definition reads it: `hops` ends with the flow
     let windows = plan.windows();
-    match flow_of(plan, f).first.checked_add(h) {
-        Some(i) => windows.get(i).map_or(0, |window| window.port),
-        None => 0,
-    }
+    let place = flow_of(plan, f).first.checked_add(h);
+    place
+        .and_then(|i| windows.get(i))
+        .map_or(0, |window| window.port)
 }
 
 // Whether flow f has a hop after hop h.

@@ -14,10 +14,7 @@ fn planned(heap: Global, error: u64, flows: &[(u64, u64)]) -> Result<CheckedPlan
     for (release, offset) in flows {
         draft.add(flow(*release, 100, 1_000, &[0]), &[*offset])?;
     }
-    match draft.check() {
-        Ok(plan) => Ok(plan),
-        Err(_) => Err(Fail::new("refused")),
-    }
+    draft.check().map_err(|_| Fail::new("refused"))
 }
 
 fn has_entries(rt: &impl Abort, list: &GateList, wanted: &[(u8, u32)]) {

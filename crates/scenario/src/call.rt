@@ -17,6 +17,7 @@ pub struct FlowNumbers {
 }
 
 /// A call of a scenario. Times are ticks; ports and flows go by number.
+// The settings of `Open` are no struct: no other call has them.
 #[derive(Drop)]
 pub enum Call {
     Open {
@@ -67,6 +68,7 @@ impl fmt::Display for Problem {
 
 impl Error for Problem {}
 
+// Both are written out, since contracts name what they give (`from_gives`): what a derive writes has no such clause.
 impl From<AllocError> for Problem {
     ghost from_gives = { λ _ r. r ≡ OutOfMemory };
 

@@ -1,5 +1,5 @@
 -- What a plan holds, and how its parts are read. Numbers of ports, flows and hops count from 0.
-use Rattle.std.specs.Prelude.{ℕ, zero, suc, ◌+◌, ◌-◌, ◌*◌, ◌<◌, ◌≤◌, List, length, get_or, take, drop, slice_index_or}
+use Rattle.std.specs.Prelude.{ℕ, zero, suc, ◌+◌, ◌-◌, ◌*◌, ◌<◌, List, length, get_or, take, drop, slice_index_or}
 use Rattle.schedule.specs.declared.tables.Port.{Port}
 use Rattle.schedule.specs.declared.tables.Flow.{Flow}
 use Rattle.schedule.specs.declared.tables.Window.{Window}
@@ -48,10 +48,6 @@ windows_of P f = take (flow_at P f).hops (drop (flow_at P f).first P.windows)
 -- there is a flow f, and it has a hop h
 abbrev pub HasHop : Plan → ℕ → ℕ → Type 0
 HasHop P f h = (f < flow_count P) × (h < hop_count P f)
-
--- likewise, or h is the place after the last hop, where the frame is delivered
-abbrev pub HasReach : Plan → ℕ → ℕ → Type 0
-HasReach P f h = (f < flow_count P) × (h ≤ hop_count P f)
 
 -- the tick of the cycle at which flow f is released
 abbrev pub release_of : Plan → ℕ → ℕ

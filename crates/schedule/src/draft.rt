@@ -10,9 +10,9 @@ pub mod hops;
 pub mod open;
 pub mod place;
 mod raise;
-pub mod rules;
+mod rules;
 
-/// A plan in the making: it may break the rules, never the limits.
+/// A plan in the making: it may break the rules, never the limits. (The first three are no struct: the rules read them one by one, in 32 bits.)
 #[derive(Drop)]
 pub struct Draft {
     pub(crate) cycle: u32,

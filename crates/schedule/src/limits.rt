@@ -1,5 +1,5 @@
 // The limits of what a plan is made of.
-ghost use Rattle.std.specs.Prelude.{◌≡◌, length};
+ghost use Rattle.std.specs.Prelude.{◌≡◌};
 ghost use Rattle.schedule.specs.Limits.{timing_allowed, each_below, ports_allowed, flow_allowed, ports_differ, route_allowed, offsets_allowed};
 
 use crate::draft::add::FlowRequest;
@@ -39,6 +39,7 @@ fn are_below(bound: u64, numbers: &[u64]) -> bool
 fn do_ports_differ(count: usize, route: &[u64]) -> bool
     ensures { result ≡ ports_differ count route.now }
 {
+    // with the hop, behind which the port must not come again
     for (hop, port) in route.iter().enumerate() {
         // a `usize` has 64 bits, so that no bit is lost; there is no `From`
         if *port >= count as u64 {

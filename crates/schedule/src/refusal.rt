@@ -48,6 +48,7 @@ pub struct Fault {
     pub hop: usize,
 }
 
+// Written out, since contracts name what it gives (`from_gives`): what a derive writes has no such clause.
 impl From<AllocError> for OpenRefusal {
     ghost from_gives = { λ _ r. r ≡ OutOfMemory };
 

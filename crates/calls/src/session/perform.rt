@@ -25,6 +25,7 @@ fn push_offsets(offsets: &mut Vec<u32>, windows: &[Window])
     }
 }
 
+// No `From`: both types are other crates'.
 fn requested(flow: &FlowNumbers) -> FlowRequest<'_>
     ensures { (result.release ≡ flow.now.release) × (result.octets ≡ flow.now.octets) × (result.deadline ≡ flow.now.deadline) × (result.route.now ≡ flow.now.route.items) }
 {
@@ -115,7 +116,7 @@ impl Session {
         let Some(plan) = &self.plan else {
             return Err(Refusal::OutOfOrder(Missing::CheckedPlan));
         };
-        // likewise
+        // as above: no bit is lost
         let list = GateList::of_port(heap, plan, port as usize)?;
         Ok(Reply::Gates { list })
     }

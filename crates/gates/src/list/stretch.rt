@@ -13,7 +13,7 @@ pub const SCHEDULED: u8 = 1 << 7;
 pub const ORDINARY: u8 = SCHEDULED - 1;
 
 /// The octet at a tick, and a later tick before which it does not change.
-#[derive(Clone, Copy, Debug, PartialEq)]
+#[derive(Clone, Copy)]
 pub struct Stretch {
     pub octet: u8,
     pub until: u64,

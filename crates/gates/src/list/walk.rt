@@ -1,4 +1,4 @@
-// Walks over the entries of a gate list.
+// Walks over the entries of a gate list. Each stops elsewhere and counts something else, so that one walk for both would take what it does from outside.
 ghost use Rattle.std.specs.Prelude.{◌≡◌, ◌-◌, ◌<◌, length, slice_index_or};
 ghost use Rattle.gates.specs.Lists.{no_entry};
 ghost use Rattle.gates.specs.Lookup.{round_octet, entry_span, entry_open, Counts};
@@ -12,6 +12,7 @@ impl GateList {
     pub(crate) fn last(&self) -> GateEntry
         ensures { result ≡ slice_index_or self.now.entries.items (length self.now.entries.items - 1) no_entry }
     {
+        // by index: the type says that there is an entry, so that no other has to be made up
         let entries = self.entries();
         entries[entries.len() - 1]
     }

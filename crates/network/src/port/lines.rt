@@ -20,7 +20,7 @@ fn with_class(mask: u8, class: u8, on: bool) -> u8
     if on { mask + (1 << class) } else { mask }
 }
 
-// The classes that a test admits, as a mask. A loop: each bit that is added needs that the mask so far lies below it.
+// The classes that a test admits, as a mask. A loop: a mask is defined class by class, and a `fold` would say no less.
 #[tactic(auto, using(crate::proofs::Masks::mask_fits, crate::proofs::Masks::mask_start, crate::proofs::Masks::mask_step))]
 pub(crate) fn classes<F: Fn(u8) -> bool>(admits: F) -> u8
     requires { F.IsAlwaysCallable admits }
@@ -33,7 +33,7 @@ pub(crate) fn classes<F: Fn(u8) -> bool>(admits: F) -> u8
     mask
 }
 
-// A flow joins the line, if there is room.
+// A flow joins the line, if there is room. (That no more wait than there is room for is the port's own invariant: a line alone does not say it.)
 #[tactic(auto, using(crate::proofs::Joining::joined_take))]
 pub(crate) fn add_flow(line: &mut FlowLine, f: u8)
     requires { length (flows line.old) ≤ 16 }

@@ -1,11 +1,11 @@
 // What the tick and the calls do to the frames and ports, and what is read of them.
 ghost use Rattle.network.specs.Lawful.{meaning};
-ghost use Rattle.std.specs.Prelude.{◌≡◌, ℕ, ◌+◌, ◌^◌, ◌<◌, ◌≤◌, length, replicate, None, vec_len, vec_capacity, slice_index_or};
+ghost use Rattle.std.specs.Prelude.{◌≡◌, ℕ, ◌+◌, ◌^◌, ◌<◌, ◌≤◌, replicate, None, vec_len, vec_capacity, slice_index_or};
 ghost use Rattle.schedule.specs.Plan.{flow_count};
 ghost use Rattle.schedule.specs.Checks.{checked_plan};
 ghost use Rattle.network.specs.Ports.{line_length, carried};
 ghost use Rattle.network.specs.Tables.{at_or, blank, flight_in, reads, row_tells, ticked_tables, offered_table, fresh_tables};
-ghost use Rattle.network.specs.Traffic.{tables_of, guides_of, timetables, clocks, followed, lined_table};
+ghost use Rattle.network.specs.Traffic.{tables_of, guides_of, KeepsPorts, timetables, clocks, followed, lined_table};
 
 use super::Traffic;
 use super::ticks::step_rows;
@@ -25,7 +25,7 @@ impl<S: Selection, K: Clock> Traffic<S, K> {
     pub(crate) fn run_tick(&mut self, plan: &CheckedPlan)
         requires { self.now.now < 2 ^ 48 }
         ensures view { tables_of self.exit.now ≡ ticked_tables (reads K.Clock.reading (clocks (guides_of self.entry.now))) (meaning S.Selection.held S.Selection.pick S.Selection.passed) (checked_plan plan.now) (followed (timetables (guides_of self.entry.now))) (tables_of self.entry.now) }
-        ensures kept { (self.exit.now.now ≡ self.entry.now.now + 1) × (vec_len self.exit.now.rows ≡ vec_len self.entry.now.rows) × (vec_len self.exit.now.ports ≡ vec_len self.entry.now.ports) × (guides_of self.exit.now ≡ guides_of self.entry.now) }
+        ensures kept { (self.exit.now.now ≡ self.entry.now.now + 1) × (vec_len self.exit.now.rows ≡ vec_len self.entry.now.rows) × KeepsPorts self.entry.now self.exit.now }
     {
         let t = self.now;
         let rows = self.rows.as_slice();
@@ -42,7 +42,7 @@ impl<S, K> Traffic<S, K> {
     pub(crate) fn take_offer(&mut self, plan: &CheckedPlan, f: usize)
         requires { f < vec_len self.now.rows }
         ensures view { tables_of self.exit.now ≡ offered_table (checked_plan plan.now) f (tables_of self.entry.now) }
-        ensures kept { (self.exit.now.now ≡ self.entry.now.now) × (vec_len self.exit.now.rows ≡ vec_len self.entry.now.rows) × (vec_len self.exit.now.ports ≡ vec_len self.entry.now.ports) × (guides_of self.exit.now ≡ guides_of self.entry.now) }
+        ensures kept { (self.exit.now.now ≡ self.entry.now.now) × (vec_len self.exit.now.rows ≡ vec_len self.entry.now.rows) × KeepsPorts self.entry.now self.exit.now }
     {
         self.rows[f].accept(self.now);
         if let Some(at) = self.ports.get_mut(port_of_hop(plan, f, 0)) {
@@ -56,7 +56,7 @@ impl<S, K> Traffic<S, K> {
     pub(crate) fn take_frame(&mut self, p: usize, class: usize, frame: Frame)
         requires { (class < 7) × (at_or (line_length class) 0 (tables_of self.now).ports p < 8) }
         ensures view { tables_of self.exit.now ≡ lined_table p class frame (tables_of self.entry.now) }
-        ensures kept { (self.exit.now.now ≡ self.entry.now.now) × (vec_len self.exit.now.rows ≡ vec_len self.entry.now.rows) × (vec_len self.exit.now.ports ≡ vec_len self.entry.now.ports) × (guides_of self.exit.now ≡ guides_of self.entry.now) }
+        ensures kept { (self.exit.now.now ≡ self.entry.now.now) × (vec_len self.exit.now.rows ≡ vec_len self.entry.now.rows) × KeepsPorts self.entry.now self.exit.now }
     {
         if let Some(at) = self.ports.get_mut(p) {
             at.port.enqueue(class, frame);
@@ -105,7 +105,7 @@ impl<S, K> Traffic<S, K> {
     #[tactic(auto, unfolding(crate::specs::Traffic::tables_of, crate::specs::Traffic::guides_of, crate::specs::Tables::fresh_tables))]
     pub(crate) fn begin_afresh(&mut self, plan: &CheckedPlan)
         ensures view { tables_of self.exit.now ≡ fresh_tables (checked_plan plan.now) (tables_of self.entry.now) }
-        ensures kept { (self.exit.now.now ≡ self.entry.now.now) × (vec_len self.exit.now.rows ≡ flow_count (checked_plan plan.now)) × (vec_len self.exit.now.ports ≡ vec_len self.entry.now.ports) × (guides_of self.exit.now ≡ guides_of self.entry.now) }
+        ensures kept { (self.exit.now.now ≡ self.entry.now.now) × (vec_len self.exit.now.rows ≡ flow_count (checked_plan plan.now)) × KeepsPorts self.entry.now self.exit.now }
     {
         refill(&mut self.rows, plan.flows().len());
     }

@@ -65,7 +65,7 @@ impl CheckedPlan {
         Some((earliest - release, last.late_after() - release))
     }
 
-    // The earliest and the latest tick at which the frame can join the line of a hop, if there is such a hop.
+    // The earliest and the latest tick at which the frame can join the line of a hop, if there is such a hop. (Below `reach`, which needs no proof file so.)
     fn reach_of(&self, flow: usize, hop: usize) -> Option<(u32, u32)>
         ensures { Reaches (checked_plan self.now) flow hop result }
     {
@@ -78,10 +78,7 @@ impl CheckedPlan {
     pub fn certificate(&self, flow: usize) -> Result<(u32, u32), CertificateRefusal>
         ensures { Certifies (checked_plan self.now) flow result }
     {
-        match self.transits(flow) {
-            Some(transits) => Ok(transits),
-            None => Err(CertificateRefusal::AbsentFlow),
-        }
+        self.transits(flow).ok_or(CertificateRefusal::AbsentFlow)
     }
 
     /// The earliest and the latest tick of the cycle at which a frame can join the line of a hop; none where there is no such hop.

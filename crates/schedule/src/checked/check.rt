@@ -13,7 +13,7 @@ impl Draft {
     fn first_fault(&self) -> Option<Fault>
         ensures { MatchOption result (Good (plan_of self.now)) (FirstFault (plan_of self.now)) }
     {
-        // by number, which the fault names
+        // `find_map` was tried: after it the proof of what is returned stays open (`returns`)
         for flow in 0..self.flows.len() {
             if let Some((hop, rule)) = self.broken_hop(flow) {
                 return Some(Fault {

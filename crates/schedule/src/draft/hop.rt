@@ -7,7 +7,7 @@ use super::Draft;
 use crate::limits::FRAME_OVERHEAD;
 use crate::tables::{Flow, Window};
 
-/// A hop that the draft has, by flow and hop.
+// A hop that the draft has, by flow and hop.
 #[derive(Clone, Copy)]
 pub(crate) struct Hop<'a> {
     pub(crate) draft: &'a Draft,
@@ -82,7 +82,7 @@ impl<'a> Hop<'a> {
         self.draft.windows[self.of_flow().first + self.hop]
     }
 
-    // The wire time of the frame. (The cast is proved to lose no bits.)
+    // The wire time of the frame. (The cast is proved to lose no bits: `try_from` would have an error that cannot come.)
     fn wire(&self) -> u32
         ensures is { result ≡ wire_of (plan_of self.now.draft.now) self.now.flow }
         ensures most { result ≤ 1542 }

@@ -17,7 +17,7 @@ pub struct Timing {
     pub extension: u64,
 }
 
-// A port for each delay.
+// A port for each delay. (The cast is proved to lose no bits.)
 fn ports_with(heap: Global, delays: &[u64]) -> Result<Vec<Port>, AllocError>
     requires { All (λ d. d < 2 ^ 32) delays.now }
     ensures { IfOk result (λ v. v.items ≡ map port_with delays.now) }

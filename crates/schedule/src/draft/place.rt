@@ -86,10 +86,7 @@ impl Draft {
     pub fn place(&mut self, request: FlowRequest<'_>) -> Result<usize, FlowRefusal>
         ensures { Places self.old request.entry.release request.entry.octets request.entry.deadline request.entry.route.now result self.new }
     {
-        match self.keep_least(request)? {
-            Some(flow) => Ok(flow),
-            None => Err(FlowRefusal::NoOffsets),
-        }
+        self.keep_least(request)?.ok_or(FlowRefusal::NoOffsets)
     }
 }
 

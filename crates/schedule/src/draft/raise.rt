@@ -9,7 +9,7 @@ use super::Draft;
 use super::hop::Hop;
 use crate::refusal::BrokenRule;
 
-/// The offset that has to rise, and the least that it can rise to.
+// The offset that has to rise, and the least that it can rise to.
 #[derive(Clone, Copy)]
 struct Raise {
     hop: usize,
@@ -39,7 +39,7 @@ impl Hop<'_> {
     }
 
     // The least offset with which the frame waits before its window can begin by any clock.
-    fn least_reached(&self) -> u32
+    pub(super) fn least_reached(&self) -> u32
         ensures { result ≡ late_at (plan_of self.now.draft.now) self.now.flow self.now.hop + self.now.draft.now.error }
     {
         self.late() + self.draft.error

@@ -25,7 +25,7 @@ impl<'a> Hop<'a> {
     fn is_reached_in_time(&self) -> bool
         ensures { Decides result (ReachedInTime (plan_of self.now.draft.now) self.now.flow self.now.hop) }
     {
-        self.late() + self.draft.error <= self.window().offset
+        self.least_reached() <= self.window().offset
     }
 
     fn is_delivered_in_cycle(&self) -> bool
@@ -63,7 +63,7 @@ impl<'a> Hop<'a> {
         ensures { MatchOption result (ApartFrom (plan_of self.now.draft.now) self.now.flow self.now.hop other) (λ x. (x.draft.now ≡ self.now.draft.now) × (x.flow ≡ other) × TooClose (plan_of self.now.draft.now) self.now.flow self.now.hop other x.hop) }
     {
         let port = self.window().port;
-        // by number, of which a `Hop` is made
+        // no `find`, for the reason below
         for hop in 0..self.draft.flows[other].hops {
             let near = Hop {
                 draft: self.draft,
@@ -81,7 +81,7 @@ impl<'a> Hop<'a> {
     pub(super) fn close_window(&self) -> Option<Hop<'a>>
         ensures { MatchOption result (StandsApart (plan_of self.now.draft.now) self.now.flow self.now.hop) (λ x. (x.draft.now ≡ self.now.draft.now) × TooClose (plan_of self.now.draft.now) self.now.flow self.now.hop x.flow x.hop) }
     {
-        // by number: only the lower flows
+        // `find_map` was tried: after it the proof of what is returned stays open (`returns`)
         for other in 0..self.flow {
             if let Some(near) = self.close_in_flow(other) {
                 return Some(near);
@@ -128,12 +128,12 @@ impl Draft {
         requires { flow < flow_count (plan_of self.now) }
         ensures { MatchOption result (FlowKeeps (plan_of self.now) flow) (λ x. (x.0.draft.now ≡ self.now) × (x.0.flow ≡ flow) × Breaks (plan_of self.now) x.1 flow x.0.hop × ((h : ℕ) → h < x.0.hop → KeepsRules (plan_of self.now) flow h)) }
     {
-        // by number, of which a `Hop` is made
-        for hop in 0..self.flows[flow].hops {
+        // no `find_map`, for the reason above
+        for number in 0..self.flows[flow].hops {
             let hop = Hop {
                 draft: self,
                 flow,
-                hop,
+                hop: number,
             };
             if let Some(rule) = hop.broken_rule() {
                 return Some((hop, rule));

@@ -38,5 +38,5 @@ returns g c =
     record {
       view = (λ i. record { now = t + 1; rows = d i; ports = map port_in (e i) })
           ∙ ticked_by (reads r (clocks gs)) X P (followed (timetables gs)) t xs ys (vec_items s.rows) rs (through_ports r X P t (vec_items s.rows) xs ys a) b;
-      kept = (refl, refl, refl, ap (map guide_of) e ∙ guides_kept r X P t (vec_items s.rows) xs ys a);
+      kept = (refl, refl, (refl, ap (map guide_of) e ∙ guides_kept r X P t (vec_items s.rows) xs ys a));
     }
