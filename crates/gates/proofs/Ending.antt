@@ -4,7 +4,6 @@ use Rattle.std.proofs.lemmas.Bool.{cases_lt, le-ltb, and_left, and_right, or_fro
 use Rattle.schedule.specs.Plan.{Plan, flow_count, hop_count, port_at, offset_at, end_at}
 use Rattle.schedule.specs.Rules.{Good}
 use Rattle.schedule.specs.Checks.{checked_plan}
-use Rattle.schedule.proofs.Props.{good_from}
 use Rattle.gates.specs.Octets.{some, inside, ahead, in_window, in_guard, octet_by, octet_at}
 use Rattle.gates.specs.Lists.{yields, EndsOrdinary}
 use Rattle.gates.proofs.Entries.{ends_with}
@@ -45,4 +44,4 @@ pub ends_ordinary : EndsOrdinary
 ends_ordinary c p es list =
     let P = checked_plan c in
     let lt : P.cycle - 1 < P.cycle = omega (arith, c.draft.timing.0) in
-    sym (ends_with es list.lasting) ∙ ap (λ n. yields es (n - 1)) list.whole ∙ list.yielding (P.cycle - 1) lt ∙ last_ordinary P (good_from P c.good) p
+    sym (ends_with es list.lasting) ∙ ap (λ n. yields es (n - 1)) list.whole ∙ list.yielding (P.cycle - 1) lt ∙ last_ordinary P c.good p

@@ -7,7 +7,6 @@ use Rattle.schedule.specs.declared.checked.CheckedPlan.{CheckedPlan}
 use Rattle.schedule.specs.Plan.{HasHop, flow_at, port_at}
 use Rattle.schedule.specs.Drafts.{plan_of}
 use Rattle.schedule.specs.Checks.{checked_plan}
-use Rattle.schedule.proofs.Props.{good_from}
 use Rattle.schedule.proofs.Routes.{ports_apart}
 use Rattle.egress.specs.Mask.{SparesSeven, Within, Picks}
 use Rattle.egress.specs.Times.{Near}
@@ -28,7 +27,7 @@ pub fit_of : (p : CheckedPlan) → Fit (checked_plan p)
 fit_of p =
     let d = p.draft in
     record {
-      good = good_from (checked_plan p) p.good;
+      good = p.good;
       released = λ f lt. (d.allowed f lt).0;
       routed = λ f lt. (d.stretches f lt).0;
       present = λ f h i. (let w = d.placed ((flow_at (plan_of d) f).first + h) (omega (arith, (d.stretches f i.0).2, i.1)) in omega (arith, d.ports.ok.0));

@@ -7,3 +7,4 @@ pub mod Drafts
 pub mod Placing
 pub mod Raising
 pub mod Checks
+pub mod Props

@@ -1,6 +1,7 @@
 // A plan that keeps the rules.
 ghost use Rattle.schedule.specs.Rules.{Good};
 ghost use Rattle.schedule.specs.Drafts.{plan_of};
+ghost use Rattle.schedule.specs.Props.{good_prop};
 
 use crate::draft::Draft;
 
@@ -11,5 +12,5 @@ pub mod check;
 #[derive(Drop)]
 pub struct CheckedPlan {
     draft: Draft,
-    ghost good: { ∥ Good (plan_of draft) ∥₁ },
+    ghost good: { Good (plan_of draft) } by { good_prop (plan_of draft) },
 }

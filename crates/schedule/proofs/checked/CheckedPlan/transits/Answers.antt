@@ -5,7 +5,6 @@ use Rattle.schedule.specs.Plan.{Plan, flow_count, release_of, crossed_at}
 use Rattle.schedule.specs.Rules.{FlowKeeps}
 use Rattle.schedule.specs.Drafts.{plan_of}
 use Rattle.schedule.specs.Checks.{Transits, checked_plan}
-use Rattle.schedule.proofs.Props.{good_from}
 use Rattle.schedule.proofs.Chains.{released_before, transits_are}
 use Rattle.schedule.proofs.checked.CheckedPlan.transits.Goals.{After-of_flow-release}
 use Rattle.schedule.proofs.checked.CheckedPlan.transits.Goals as goal
@@ -21,7 +20,7 @@ module _ (c : goal.After-of_flow-release) where
   present = let many = ap (λ (d : Draft). flow_count (plan_of d)) c.in_ok-last.ensures.0 in omega (arith, c.in_ok-last.ensures.1, c.in_ok-last.last.there.0)
 
   keeps : FlowKeeps P c.args.flow
-  keeps = good_from P c.args.self.now.good c.args.flow present
+  keeps = c.args.self.now.good c.args.flow present
 
   released : release_of P c.args.flow + P.error ≤ crossed_at P c.args.flow c.in_ok-last.last.hop
   released = released_before P c.args.flow keeps c.in_ok-last.last.hop c.in_ok-last.ensures.2

@@ -1,6 +1,5 @@
--- That a plan is good is a proposition, so that it comes out of a checked plan.
+-- That a plan is good is a proposition: there is one proof of it at most, so that it may stand in a type.
 use mathlib.Core.HLevel.{Π_prop, →_prop, ¬_prop}
-use mathlib.Core.Logic.{∥∥₁_elim}
 use Rattle.std.proofs.Common.{ℕ}
 use native.Mathlib.Bridge.{le_prop}
 use Rattle.schedule.specs.Plan.{Plan}
@@ -19,8 +18,5 @@ keeps_prop P f h x y i = record {
   apart = Π_prop (λ g. →_prop (Π_prop (λ k. →_prop (→_prop (apart_prop P f h g k))))) x.apart y.apart i;
 }
 
-good_prop : (P : Plan) → IsProp (Good P)
+pub good_prop : (P : Plan) → IsProp (Good P)
 good_prop P = Π_prop (λ f. →_prop (Π_prop (λ h. →_prop (keeps_prop P f h))))
-
-pub good_from : (P : Plan) → ∥ Good P ∥₁ → Good P
-good_from P t = ∥∥₁_elim t (good_prop P) (λ g. g)
