@@ -30,7 +30,7 @@ pub enum Refusal {
 }
 
 impl Refusal {
-    /// The number of the refusal; a call out of order and want of memory have none.
+    /// The number of the refusal, as it is printed; a call out of order and want of memory have none.
     pub fn number(self) -> Option<u8>
         ensures { result ≡ refusal_number self }
     {

@@ -1,4 +1,4 @@
-// Selections: which class goes next. Sets of classes are masks, bit c for class c.
+// Selections: which class goes next. Sets of classes are masks, bit c for class c, so that a class is a number and no enum.
 ghost use Rattle.std.specs.Prelude.{◌≡◌, ℕ, Option};
 ghost use Rattle.egress.specs.Mask.{SparesSeven, Within, Picks};
 

@@ -22,7 +22,7 @@ impl From<AllocError> for GateRefusal {
 }
 
 impl GateRefusal {
-    /// The number of the refusal; want of memory has none.
+    /// The number of the refusal, as it is printed; want of memory has none.
     pub fn number(self) -> Option<u8>
         ensures { result ≡ gate_number self }
     {

@@ -58,7 +58,7 @@ impl From<AllocError> for OpenRefusal {
 }
 
 impl OpenRefusal {
-    /// The number of the refusal; want of memory has none.
+    /// The number of the refusal, as it is printed; want of memory has none.
     pub fn number(self) -> Option<u8>
         ensures { result ≡ open_number self }
     {
@@ -71,6 +71,7 @@ impl OpenRefusal {
 }
 
 impl FlowRefusal {
+    /// The number of the refusal, as it is printed.
     pub fn number(self) -> u8
         ensures { result ≡ flow_number self }
     {
@@ -85,6 +86,7 @@ impl FlowRefusal {
 }
 
 impl CertificateRefusal {
+    /// The number of the refusal, as it is printed.
     pub fn number(self) -> u8
         ensures { result ≡ certificate_number self }
     {
@@ -95,6 +97,7 @@ impl CertificateRefusal {
 }
 
 impl BrokenRule {
+    /// The number of the rule, as it is printed.
     pub fn number(self) -> u8
         ensures { result ≡ rule_number self }
     {
@@ -110,6 +113,7 @@ impl BrokenRule {
 }
 
 impl Fault {
+    /// The number of the rule, as it is printed.
     pub fn number(self) -> u8
         ensures { result ≡ fault_number self }
     {
