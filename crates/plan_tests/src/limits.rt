@@ -109,10 +109,11 @@ fn routes_and_offsets_at_their_edges(rt: HostRuntime) -> Result<(), Fail> {
 fn a_full_draft_takes_no_more(rt: HostRuntime) -> Result<(), Fail> {
     let heap = rt.alloc();
     let mut draft = Draft::open(heap, timing(10_000, 0, 0), &[0])?;
-    for (n, number) in (0..16u64).zip(0usize..) {
+    // by number: a `usize` has 64 bits, so that the cast loses none
+    for n in 0..16u64 {
         assert_eq!(rt;
             draft.add(flow(n * 100, 64, 1_000, &[0]), &[n * 100])?,
-            number
+            n as usize
         );
     }
     assert_eq!(rt; adding(&mut draft, flow(0, 0, 0, &[]), &[]), Some(1));

@@ -39,8 +39,9 @@ fn refusals_in_their_order(rt: HostRuntime) -> Result<(), Fail> {
     assert_eq!(rt; placing(&mut draft, flow(0, 64, 1, &[])), Some(3));
     assert_eq!(rt; placing(&mut draft, flow(0, 64, 83, &[0])), Some(4));
     assert_eq!(rt; placing(&mut draft, flow(0, 64, 84, &[0])), None);
-    for (n, number) in (1..16u64).zip(1usize..) {
-        assert_eq!(rt; draft.place(flow(n * 84, 64, 84, &[0]))?, number);
+    // by number: a `usize` has 64 bits, so that the cast loses none
+    for n in 1..16u64 {
+        assert_eq!(rt; draft.place(flow(n * 84, 64, 84, &[0]))?, n as usize);
     }
     assert_eq!(rt; placing(&mut draft, flow(0, 0, 0, &[])), Some(1));
     Ok(())
