@@ -8,7 +8,7 @@ use Rattle.gates.specs.declared.timetable.Rotation.{Rotation}
 use Rattle.gates.specs.declared.timetable.Timetable.{Timetable}
 use Rattle.gates.specs.Octets.{opens}
 use Rattle.gates.specs.Lists.{total}
-use Rattle.gates.specs.Lookup.{last_octet, list_octet, held_from, lists_octet, octets_with, octets, list_span, cut_to, lists_span, span_with, Stays, Counts, settled_with, next_from, SettlingKeeps}
+use Rattle.gates.specs.Lookup.{last_octet, list_octet, held_from, lists_octet, octets_with, octets, list_span, cut_to, lists_span, span_with, span_at, Stays, Counts, settled_with, next_from, SettlingKeeps}
 use Rattle.gates.proofs.Leads.{Lead, counted, leading, lead_longer, lead_join, lead_alike}
 use Rattle.gates.proofs.Rounds.{stays_from, list_stays}
 
@@ -41,7 +41,7 @@ module _ (es : List GateEntry) (C B : ℕ) (fs : List GateEntry) (D T : ℕ) whe
   unfolding lists_span
   span_first l lt = grind (arith, nat_tests)
 
-  lists_stays : total es ≡ C → 0 < C → total fs ≡ D → 0 < D → (l : ℕ) → Stays (lists_octet es C B fs D T) l (lists_span es C B fs D T l)
+  pub lists_stays : total es ≡ C → 0 < C → total fs ≡ D → 0 < D → (l : ℕ) → Stays (lists_octet es C B fs D T) l (lists_span es C B fs D T l)
   lists_stays we se wf sf l = elim (cases_lt l T) [
     | inr h ↦ (let s = list_stays fs D wf sf T l in
         subst (Stays (lists_octet es C B fs D T) l) (sym (span_after l h)) (stays_from (lists_octet es C B fs D T) l (list_span fs D T l) s.lasts (λ i k. octet_after (l + i) (omega arith) ∙ s.on i k)))
@@ -107,10 +107,9 @@ with_stays a (Some n) l =
     lists_stays (vec_items a.list.entries) a.list.cycle a.base (vec_items n.list.entries) n.list.cycle n.base a.list.whole a.list.positive n.list.whole n.list.positive l
 
 -- what holds at a tick stays for the ticks of its span
-pub timetable_stays : (t : Timetable) (o : Option Rotation) (l : ℕ) (s : Span) → t.next ≡ o → s ≡ span_with t.current o l → Stays (octets t) l s
-unfolding octets
-timetable_stays t o l s next is =
-    subst (λ (p : Option Rotation). Stays (octets_with t.current p) l s) (sym next) (subst (Stays (octets_with t.current o) l) (sym is) (with_stays t.current o l))
+pub timetable_stays : (t : Timetable) (l : ℕ) → Stays (octets t) l (span_at t l)
+unfolding octets span_at
+timetable_stays t l = with_stays t.current t.next l
 
 settled_alike : (t : Timetable) (o : Option Rotation) (l : ℕ) → t.next ≡ o → next_from o ≤ l → octets (settled_with t o) l ≡ octets_with t.current o l
 unfolding octets

@@ -54,7 +54,7 @@ impl Rotation {
 
 impl Timetable {
     /// The octet at a local tick, and the ticks from there to where another entry, the hold or the next list begins.
-    #[tactic(auto, unfolding(crate::specs::Lookup::span_at))]
+    #[tactic(auto, using(crate::proofs::Rounds::list_stays, crate::proofs::Changes::lists_stays), unfolding(crate::specs::Lookup::octets, crate::specs::Lookup::span_at))]
     pub fn span(&self, l: u64) -> Span
         ensures is { result ≡ span_at self.now l }
         ensures stays { Stays (octets self.now) l result }
