@@ -14,6 +14,10 @@ uncommented (b ∷ bs) = cond (b == 35) [] (b ∷ uncommented bs)
 abbrev pub parts : ℕ → Bool
 parts b = b == 32 || b == 9
 
+-- a word ends where words are parted, and where the comment starts
+abbrev pub stops : ℕ → Bool
+stops b = parts b || b == 35
+
 -- a word that is under way ends: there is one if it has bytes
 abbrev pub ended : List ℕ → List (List ℕ)
 ended [] = []
@@ -30,7 +34,7 @@ words_of bs = words_after [] bs
 
 -- the words that a reader has still to come to
 abbrev pub left : Words → List (List ℕ)
-left reader = words_of reader.rest.now
+left reader = words_of (uncommented reader.rest.now)
 
 -- a decimal digit, `0` to `9`
 abbrev pub digit : ℕ → Bool
