@@ -47,7 +47,7 @@ module _ (ports : ℕ) (route : List ℕ) (routed : route_allowed ports route �
   routed_most = within_high 1 6 (length route) (and_parts (within 1 6 (length route)) (ports_differ ports route) routed).0
 
 module _ (cycle ports : ℕ) (fs : List Flow) (ws : List Window)
-    (tables : TablesHeld fs ws) (flows : FlowsHeld cycle fs) (stretches : StretchesHeld fs ws) (windows : WindowsHeld cycle ports ws) (routes : RoutesHeld ports fs ws) (order : OrderHeld fs)
+    (tables : TablesHeld fs ws) (flows : FlowsHeld cycle fs) (stretches : StretchesHeld fs ws) (windows : WindowsHeld cycle ports ws) (routes : RoutesHeld ports fs ws)
     (few : length fs < 16) (release octets deadline : ℕ) (route offsets : List ℕ)
     (allowed : flow_allowed cycle release octets deadline ≡ true) (routed : route_allowed ports route ≡ true) (spaced : offsets_allowed cycle route offsets ≡ true) where
   abbrev flow : Flow
@@ -91,8 +91,8 @@ module _ (cycle ports : ℕ) (fs : List Flow) (ws : List Window)
       (λ i h. let (a, b, e) = stretches i h in (a, b, omega arith))
       (routed_least ports route routed, routed_most ports route routed, omega arith)
 
-  order_more : OrderHeld (fs ++ flow ∷ [])
-  order_more f g lg lf =
+  order_more : OrderHeld fs → OrderHeld (fs ++ flow ∷ [])
+  order_more order f g lg lf =
       let n = length_push fs flow in
       let e = get_or_append_left fs (flow ∷ []) no_flow g (omega arith) in
       let first = ap (λ (x : Flow). x.first) e in
@@ -136,8 +136,12 @@ module _ (cycle ports : ℕ) (fs : List Flow) (ws : List Window)
       ∙ ap (ports_differ ports) (along_ports route offsets same_length) ∙ differ)
 
   pub held_after_add : (fs' : List Flow) (ws' : List Window) → fs' ≡ fs ++ flow ∷ [] → ws' ≡ ws ++ new
-      → TablesHeld fs' ws' × FlowsHeld cycle fs' × StretchesHeld fs' ws' × WindowsHeld cycle ports ws' × RoutesHeld ports fs' ws' × OrderHeld fs'
+      → TablesHeld fs' ws' × FlowsHeld cycle fs' × StretchesHeld fs' ws' × WindowsHeld cycle ports ws' × RoutesHeld ports fs' ws'
   held_after_add fs' ws' is_fs is_ws =
-      let Held : List Flow → List Window → Type 0 = λ fs ws. TablesHeld fs ws × FlowsHeld cycle fs × StretchesHeld fs ws × WindowsHeld cycle ports ws × RoutesHeld ports fs ws × OrderHeld fs in
+      let Held : List Flow → List Window → Type 0 = λ fs ws. TablesHeld fs ws × FlowsHeld cycle fs × StretchesHeld fs ws × WindowsHeld cycle ports ws × RoutesHeld ports fs ws in
       subst (λ (l : List Flow). Held l ws') (sym is_fs) (subst (λ (l : List Window). Held (fs ++ flow ∷ []) l) (sym is_ws)
-      (tables_more, flows_more, stretches_more, windows_more, routes_more, order_more))
+      (tables_more, flows_more, stretches_more, windows_more, routes_more))
+
+  -- and the new flow stands behind the others
+  pub ordered_after_add : OrderHeld fs → (fs' : List Flow) → fs' ≡ fs ++ flow ∷ [] → OrderHeld fs'
+  ordered_after_add order fs' is_fs = subst (λ (l : List Flow). OrderHeld l) (sym is_fs) (order_more order)

@@ -10,7 +10,7 @@ pub mod hops;
 pub mod open;
 pub mod place;
 mod raise;
-mod rules;
+pub mod rules;
 
 /// A plan in the making: it may break the rules, never the limits. (The first three are no struct: the rules read them one by one, in 32 bits.)
 #[derive(Drop)]
