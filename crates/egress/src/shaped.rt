@@ -61,15 +61,17 @@ impl Shaped {
     fn next_credit(&self, wire: bool, waits: bool, gate: bool) -> i32
         ensures { result ≡ credited self.now.credit self.now.slope wire waits gate }
     {
+        // read here and not in the cases, which then take fewer jumps
+        let credit = self.credit;
         let slope = i32::from(self.slope);
         if wire {
-            Self::stop(self.credit + slope - LINK)
+            Self::stop(credit + slope - LINK)
         } else if !waits {
             0
         } else if !gate {
-            self.credit
+            credit
         } else {
-            Self::stop(self.credit + slope)
+            Self::stop(credit + slope)
         }
     }
 
