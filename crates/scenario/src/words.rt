@@ -43,7 +43,9 @@ impl<'a> Iterator for Words<'a> {
 
     ghost remaining = { item_count left };
 
-    // One pass over the bytes: a search for the comment of its own, and for gaps by characters, cost a third more on short lines.
+    // One pass over the bytes, in place of a search of its own for the comment and one for gaps by characters. A call for each word,
+    // not inlined, cost a third more on long lists.
+    #[inline(always)]
     fn next(&mut self) -> Option<&'a str> {
         let text = self.rest.trim_start_matches(GAPS);
         let len = first_stop(text).unwrap_or(text.len());
